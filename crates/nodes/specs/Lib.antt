@@ -1,0 +1,12 @@
+pub mod Store
+pub mod Programs
+pub mod Recursion
+pub mod Operations
+pub mod Relations
+pub mod Sets
+pub mod Images
+pub mod Packets
+pub mod WellFormed
+pub mod Meaning
+pub mod Places
+pub mod Safety

@@ -1,0 +1,10 @@
+//! The reference Rust run as document 01's store, to compare other stores with.
+
+pub mod answer;
+pub mod call;
+pub mod check;
+pub mod draw;
+pub mod operations;
+pub mod random;
+pub mod replay;
+pub mod store;

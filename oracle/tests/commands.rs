@@ -1,0 +1,80 @@
+//! Replaying, drawing and checking.
+
+use oracle::call::Call;
+use oracle::check::{check, Effort};
+use oracle::draw::{Draw, Part};
+use oracle::operations;
+use oracle::replay::replay;
+use std::collections::HashSet;
+
+fn replayed(list: &str) -> String {
+    let mut output = vec![];
+    replay(list.as_bytes(), &mut output).unwrap();
+    String::from_utf8(output).unwrap()
+}
+
+fn drawn(seed: u64, count: usize, part: Part) -> Vec<String> {
+    Draw::new(seed, part).take(count).map(|call| call.to_string()).collect()
+}
+
+#[test]
+fn a_replay_gives_the_answer_and_both_counts() {
+    let list = "rel.one\nnew 1 5 2\nrel.test 0 1\nrel.get 5\nset.is_zero 2\nassign 0 1\n\
+                assign 0 0\nnew 33 9 9\nset.test 0 1\nnew 0 0 0\n";
+    let answers = "h 1 0 0\no 3 1\nh 5 4 1\nc 0 0 0 1 4 1\nb 1 4 1\nh 6 5 1\n\
+                   r 6 5 1\nr 5 5 1\nh 4 5 2\no 0 0\n";
+    assert_eq!(replayed(list), answers);
+}
+
+#[test]
+fn a_line_that_is_no_call_stops_the_replay() {
+    let faults =
+        ["", "rel.top", "top 1", "top ", "flip x", "flip 4294967296", "new 1 1", "flip  2"];
+    for fault in faults {
+        assert!(replay(format!("{fault}\n").as_bytes(), vec![]).is_err(), "{fault:?}");
+    }
+}
+
+#[test]
+fn there_are_42_calls_with_new() {
+    let names: HashSet<_> = operations::all().map(|operation| operation.name).collect();
+    assert_eq!(names.len() + 1, 42);
+}
+
+#[test]
+fn a_seed_draws_one_list() {
+    assert_eq!(drawn(1, 2000, Part::All), drawn(1, 2000, Part::All));
+    assert_ne!(drawn(1, 2000, Part::All), drawn(2, 2000, Part::All));
+}
+
+#[test]
+fn a_drawn_list_has_every_call_and_answer() {
+    let list = drawn(3, 20_000, Part::All);
+    assert!(list.iter().all(|line| line.parse::<Call>().unwrap().to_string() == *line));
+    let first_word = |line: &String| line.split(' ').next().map(String::from);
+    assert_eq!(list.iter().filter_map(first_word).collect::<HashSet<_>>().len(), 42);
+    let answers = replayed(&list.join("\n"));
+    assert!(answers.starts_with('o'));
+    for start in ["h ", "b 0 ", "b 1 ", "c ", "r 2 ", "r 3 ", "r 4 ", "r 5 ", "r 6 "] {
+        assert!(answers.lines().any(|line| line.starts_with(start)), "{start}");
+    }
+}
+
+#[test]
+fn a_part_draws_its_own_operations_only() {
+    let own = |part, operations: &[operations::Operation]| {
+        drawn(4, 2000, part).iter().all(|line| {
+            let name = line.split(' ').next().unwrap();
+            name == "new" || operations.iter().any(|operation| operation.name == name)
+        })
+    };
+    assert!(own(Part::Sets, &operations::SETS));
+    assert!(own(Part::Relations, &operations::RELATIONS));
+}
+
+#[test]
+fn the_reference_means_what_document_01_says() {
+    let mut table = vec![];
+    let agreed = check(&Effort { all_up_to: 256, random_lists: 50 }, &mut table).unwrap();
+    assert!(agreed, "{}", String::from_utf8(table).unwrap());
+}
