@@ -29,15 +29,15 @@ same-node-refl [] = tt
 same-node-refl (a ∷ x) = both-T (eqb a a) (same-node x x) (eqb-refl a) (same-node-refl x)
 
 -- M is N having x, and x stands there at p
-record Had (x : List ℕ) (N M : Nodes) (p : ℕ) : Type 0 where
-  tail : Nodes
-  split : M ≡ N ++ tail
-  inside : p < length M
-  found : getD M p [] ≡ x
+pub record Had (x : List ℕ) (N M : Nodes) (p : ℕ) : Type 0 where
+  pub tail : Nodes
+  pub split : M ≡ N ++ tail
+  pub inside : p < length M
+  pub found : getD M p [] ≡ x
   -- nothing is added, or one node that was not there, and it stands at the end
-  new : (M ≡ N) ⊎ ((M ≡ N ++ (x ∷ [])) × (p ≡ length N) × ((i : ℕ) → i < length N → ¬ (getD N i [] ≡ x)))
+  pub new : (M ≡ N) ⊎ ((M ≡ N ++ (x ∷ [])) × (p ≡ length N) × ((i : ℕ) → i < length N → ¬ (getD N i [] ≡ x)))
 
-had : (x : List ℕ) (N : Nodes) → Had x N (having x N) (place x N)
+pub had : (x : List ℕ) (N : Nodes) → Had x N (having x N) (place x N)
 unfolding place having
 had x [] = record { tail = x ∷ []; split = refl; inside = omega arith; found = refl; new = inr (refl, refl, λ i h. absurd (omega arith)) }
 had x (y ∷ N) = go (same-node x y) refl (had x N)
@@ -57,7 +57,7 @@ had x (y ∷ N) = go (same-node x y) refl (had x N)
       new = other (λ q. rw e at (subst (λ z. T (same-node x z)) (sym q) (same-node-refl x))) (h .new);
     }
 
-had-cover : {x : List ℕ} {N M : Nodes} {p : ℕ} → Had x N M p → (i : ℕ) → i < length M → (i < length N) ⊎ ((getD M i [] ≡ x) × (i ≡ length N))
+pub had-cover : {x : List ℕ} {N M : Nodes} {p : ℕ} → Had x N M p → (i : ℕ) → i < length M → (i < length N) ⊎ ((getD M i [] ≡ x) × (i ≡ length N))
 had-cover {x} {N} {M} {p} h i b = go (h .new) (decLt i (length N))
   where
     go : (M ≡ N) ⊎ ((M ≡ N ++ (x ∷ [])) × (p ≡ length N) × ((i : ℕ) → i < length N → ¬ (getD N i [] ≡ x))) → Dec (i < length N)
