@@ -16,7 +16,7 @@ use Rattle.nodes.specs.Safety.{Within, Sure, Safe}
 use Rattle.nodes.specs.Store.{Kind, arity, Store, pick, get, child, mk-store, mk-handle}
 use Rattle.nodes.specs.WellFormed.{Held, WellFormed, Extends}
 use Rattle.nodes.proofs.Extends.{ext-refl, ext-trans, ext-held, ext-walk}
-use Rattle.nodes.proofs.Mk.{mk-ext, held-early, mk-held, mk-formed, mk-walk}
+use Rattle.nodes.proofs.Mk.{mk-ext, mk-held, mk-formed, mk-walk}
 
 pub record After (k : ℕ) (S : Store) (Q : Store → ℕ → Type 0) (R : Ran) : Type 0 where
   pub ext : Extends S (R .store)
@@ -91,7 +91,7 @@ module _ {k : ℕ} where
       → ((d : ℕ) → d < arity K → Den K l (φ d) S (getD x d 0)) → Does k S (mk K x) (Den K (suc l) (Node φ))
   unfolding run Safe
   mk-does {S} K l φ x F b n H = record {
-    safe = λ d i. held-early K S l (getD x d 0) (H d i .held);
+    safe = record { level = l; sized = n; held = λ d i. H d i .held };
     after = record {
       ext = mk-ext K x S;
       formed = mk-formed K x F b n (λ d i. H d i .held);

@@ -3,7 +3,7 @@ use mathlib.Core.Path.{_≡_}
 use mathlib.Core.List.{List}
 use Prim.Native.Nat.{ℕ, _<_, _≤_}
 use lib.ListN.{length, getD}
-use Rattle.nodes.specs.Store.{Kind, arity, Store, nodes, index, handle-of, get, pick}
+use Rattle.nodes.specs.Store.{Kind, arity, Store, nodes, index, get, pick}
 use Rattle.nodes.specs.Programs.{Test, same, less, has, holds, Prog, panic, ret, ask, look, mk, bind, ran, run}
 use Rattle.nodes.specs.WellFormed.{Held, Extends}
 
@@ -18,13 +18,19 @@ Sure (same a b) S = Unit {0}
 Sure (less a b) S = Unit {0}
 Sure (has P K l h) S = Held K S l h
 
--- no panic, every test is sure, every look is at a node that is there, and a new node's children come before it
+-- the children of a new node are held at one level
+pub record Kids (K : Kind) (x : List ℕ) (S : Store) : Type 0 where
+  pub level : ℕ
+  pub sized : length x ≡ arity K
+  pub held : (d : ℕ) → d < arity K → Held K S level (getD x d 0)
+
+-- no panic, every test is sure, every look is at a node that is there, and a new node's children are held at one level
 unfoldable pub Safe : Prog → Store → Type 0
 Safe panic S = ⊥
 Safe (ret h) S = Unit {0}
 Safe (ask t p q) S = Sure t S × pick (holds t S) (Safe p S) (Safe q S)
 Safe (look K h f) S = Within K S h × Safe (f (get K S h)) S
-Safe (mk K x) S = (d : ℕ) → d < arity K → getD x d 0 < handle-of K 0 (length (nodes K S))
+Safe (mk K x) S = Kids K x S
 Safe (bind p f) S = Safe p S × Safe (f (run p S .value)) (run p S .store)
 
 -- p adds nothing to S or to any extension of it, and gives r

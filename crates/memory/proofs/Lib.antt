@@ -1,0 +1,9 @@
+pub mod Rows
+pub mod Chains
+pub mod Entries
+pub mod Known
+pub mod Children
+pub mod Walks
+pub mod Steps
+pub mod Remembering
+pub mod Joining

@@ -1,0 +1,104 @@
+-- The working memory stays right: where the memo keeps the answer of a finished run, and where a number outside a part changes.
+-- a part of the working memory goes by its own numbers
+use mathlib.Core.Path.{_≡_, sym, ap, _∙_, subst}
+use mathlib.Core.Logic.{inl, inr}
+use mathlib.Core.List.{List, [], _∷_}
+use mathlib.Core.Bool.{true}
+use Prim.Native.Nat.{ℕ, _+_, _*_, _/_, _%_, _<_, _≤_}
+use native.Mathlib.Omega.{arith}
+use native.Mathlib.Nat.{add-assoc}
+use lib.ListN.{length, getD, drop}
+use lib.Seq.{getD-drop}
+use Rattle.nodes.specs.Operations.{fields}
+use Rattle.nodes.specs.Programs.{Prog, ret, Ran, run}
+use Rattle.nodes.specs.Safety.{Safe, Settled}
+use Rattle.nodes.specs.Store.{Kind, set, rel, Store, index, handle-of}
+use Rattle.nodes.proofs.Settle.{settled}
+use Rattle.memory.specs.declared.Arena.{Arena}
+use Rattle.memory.specs.declared.Found.{Found}
+use Rattle.memory.specs.declared.Found.the-variants.{Answer}
+use Rattle.memory.specs.Arena.{Ready, Performs, Recalls, Keeps, Remembered}
+use Rattle.memory.specs.Memo.{memo-program}
+use Rattle.memory.specs.Rows.{row, plain}
+use Rattle.memory.specs.Working.{memo-size, links-at, words-at, Indexed, Known, tag, Entry, Remembers}
+use Rattle.memory.proofs.Steps.{was-ok, done-ran, Stands, right-at, turn}
+
+pub drop-at-same : (n : ℕ) (w w′ : List ℕ) → drop n w′ ≡ drop n w → (i : ℕ) → getD w′ (n + i) 0 ≡ getD w (n + i) 0
+drop-at-same n w w′ e i = sym (getD-drop n w′ i 0) ∙ ap (λ l. getD l i 0) e ∙ getD-drop n w i 0
+
+-- index and words stand behind the memo
+module _ (w w′ : List ℕ) (long : length w′ ≡ length w) (rest : drop (memo-size (length w)) w′ ≡ drop (memo-size (length w)) w) where
+  behind : (i : ℕ) → getD w′ (memo-size (length w′) + i) 0 ≡ getD w (memo-size (length w) + i) 0
+  behind i = ap (λ l. getD w′ (memo-size l + i) 0) long ∙ drop-at-same (memo-size (length w)) w w′ rest i
+
+  pub index-behind : {node : ℕ → List ℕ} {n : ℕ} → Indexed node w n → Indexed node w′ n
+  index-behind {node} {n} h l = let c = h (subst (λ n. links-at n + 4096 ≤ n) long l) in record {
+    heads = λ b i. behind b ∙ c .heads b i;
+    links = λ i j.
+        ap (λ k. getD w′ k 0) (add-assoc (memo-size (length w′)) 4096 i) ∙ behind (4096 + i)
+        ∙ ap (λ k. getD w k 0) (sym (add-assoc (memo-size (length w)) 4096 i)) ∙ c .links i j;
+  }
+
+  pub word-behind : (J : Kind) (i : ℕ) → getD w′ (words-at J (length w′) + i) 0 ≡ getD w (words-at J (length w) + i) 0
+  word-behind rel i =
+      ap (λ k. getD w′ k 0) (add-assoc (memo-size (length w′)) 8192 i) ∙ behind (8192 + i)
+      ∙ ap (λ k. getD w k 0) (sym (add-assoc (memo-size (length w)) 8192 i))
+  word-behind set i =
+      ap (λ k. getD w′ k 0) (add-assoc (memo-size (length w′)) 12288 i) ∙ behind (12288 + i)
+      ∙ ap (λ k. getD w k 0) (sym (add-assoc (memo-size (length w)) 12288 i))
+
+-- the entry of an operation that is settled
+entry-new : (op l a b h : ℕ) (x : List ℕ) {S : Store} → l < 256 → x ≡ tag op l ∷ a ∷ b ∷ h ∷ [] → Settled (memo-program op l a b) S h → Entry x S
+unfolding Entry
+entry-new op l a b h x {S} i e s = subst (λ y. 0 < getD y 0 0
+    → Settled (memo-program (getD y 0 0 / 256) (getD y 0 0 % 256) (getD y 1 0) (getD y 2 0)) S (getD y 3 0)) (sym e)
+    (λ z. let p : (256 * op + l) / 256 ≡ op = omega arith in let q : (256 * op + l) % 256 ≡ l = omega arith in rw (p, q) s)
+
+pub memo-kept : {op l a b h : ℕ} {w w′ : List ℕ} {S : Store} → l < 256 → Keeps w w′ op l a b h → Settled (memo-program op l a b) S h → Remembers w S
+    → Remembers w′ S
+memo-kept {op} {l} {a} {b} {h} {w} {w′} {S} i k s m j f = elim (k .entries j (subst (λ n. 4 * j + 3 < memo-size n) (k .wide) f)) [
+  | inl e ↦ subst (λ x. Entry x S) (sym e) (m j (subst (λ n. 4 * j + 3 < memo-size n) (k .wide) f))
+  | inr e ↦ entry-new op l a b h (row 4 w′ j) i e s
+]
+
+-- a call that runs an operation of the memo's table may keep its answer there
+pub performs-remember : {K : Kind} {p : Prog} {s r : Arena} {m m′ w w₁ w₂ : List ℕ} (op l a b : ℕ) → p ≡ memo-program op l a b → l < 256
+    → Performs K p s m m′ w w₁ r
+    → Remembered r op l a b w₁ w₂ → Performs K p s m m′ w w₂ r
+performs-remember {K} {p} {s} {r} {m} {m′} {w} {w₁} {w₂} op l a b e i d k = record {
+  runs = λ B R. let c = d .runs B R in record {
+    okay = c .okay;
+    done = λ t. let f = c .done t in let g = k .kept t in record {
+      store = f .store;
+      value = f .value;
+      work = record {
+        fields = f .work .fields;
+        formed = f .work .formed;
+        memo = memo-kept i g (answer B R t) (f .work .memo);
+        index = index-behind w₁ w₂ (g .wide) (g .rest) (f .work .index);
+        words = λ J i x y. subst (λ v. Known J (plain K B m′ (r .n)) (handle-of J 0 i) v) (sym (word-behind w₁ w₂ (g .wide) (g .rest) J i))
+            (f .work .words J i x y);
+        unset = λ i x y. word-behind w₁ w₂ (g .wide) (g .rest) K i ∙ f .work .unset i x y;
+      };
+    };
+    writes = c .writes;
+    wide = k .wide ∙ c .wide;
+  };
+}
+  where
+    answer : (B : Store) → Ready K p B s m w → r .ok ≡ true → Settled (memo-program op l a b) (plain K B m′ (r .n)) (r .h)
+    answer B R t =
+        let c = d .runs B R in
+        let S = plain K B m (s .n) in
+        subst (λ q. Settled q (plain K B m′ (r .n)) (r .h)) e
+        (subst (λ (Q : Ran). Settled p (Q .store) (Q .value)) (sym (done-ran c t)) (settled p S (R .live (was-ok c t) .safe)))
+
+-- the memo knows the answer of what is left
+pub recalled : {K : Kind} {p q : Prog} {s : Arena} {m w : List ℕ} {h : ℕ} {r : Found} (op l a b : ℕ) → q ≡ memo-program op l a b → Stands K p q s m w
+    → Recalls w op l a b r → r ≡ Answer h
+    → Stands K p (ret h) s m w
+unfolding run Safe
+recalled {K} {p} {q} {s} {m} {w} {h} op l a b e u k f = turn u (λ B R x. record {
+  runs = ap (λ z. run z (plain K B m (s .n))) e ∙ k .recalls (plain K B m (s .n)) h (right-at u B R .memo) f;
+  safe = tt;
+})

@@ -1,0 +1,217 @@
+-- Laws for functions that run a program on the nodes of one kind: what is left of it where the function stands, and each kind of return.
+use mathlib.Core.Path.{_≡_, refl, sym, ap, _∙_, subst}
+use mathlib.Core.List.{List}
+use mathlib.Core.Bool.{Bool, true, false, _&&_}
+use Prim.Native.Nat.{ℕ, _+_, _-_, _*_, _/_, _≤_, min}
+use native.Mathlib.Omega.{arith}
+use native.Mathlib.Nat.{mul-le-mul-left}
+use lib.ListN.{length, take, drop, length-append}
+use lib.Seq.{drop-drop, take-take}
+use lib.Dec.{leb}
+use borrow.Author.Tests.{le-leb, lt-leb, leb-false}
+use Rattle.nodes.specs.Programs.{Test, holds, Prog, panic, ret, ask, look, bind, Ran, ran, run}
+use Rattle.nodes.specs.Safety.{Sure, Safe}
+use Rattle.nodes.specs.Store.{Kind, arity, Store, nodes}
+use Rattle.nodes.specs.WellFormed.{Extends}
+use Rattle.nodes.proofs.Bools.{by-test}
+use Rattle.nodes.proofs.Settle.{run-ext}
+use Rattle.memory.specs.declared.Arena.{Arena}
+use Rattle.memory.specs.Arena.{arena, Ready, ends, Writes, Runs, Performs, Looks}
+use Rattle.memory.specs.Rows.{places, plain}
+use Rattle.memory.specs.Working.{Right}
+use Rattle.memory.proofs.Rows.{plain-length}
+
+pub writes-same : {c n : ℕ} {m : List ℕ} → n ≤ places c m → Writes c n m m n
+writes-same h = record { grows = omega arith; head = refl; rest = refl; most = h; long = refl }
+
+pub places-same : (c : ℕ) (m m′ : List ℕ) → length m′ ≡ length m → places c m′ ≡ places c m
+places-same c m m′ e = ap (λ l. min 4096 (l / c)) e
+
+pub writes-then : {c a b d : ℕ} {m m₁ m₂ : List ℕ} → Writes c a m m₁ b → Writes c b m₁ m₂ d → Writes c a m m₂ d
+writes-then {c} {a} {b} {d} {m} {m₁} {m₂} p q = record {
+  grows = omega (arith, p .grows, q .grows);
+  head = shorter m₂ m₁ (q .head) ∙ p .head;
+  rest = q .rest ∙ later m₁ m (p .rest);
+  most = subst (λ n. d ≤ n) (places-same c m m₁ (p .long)) (q .most);
+  long = q .long ∙ p .long;
+}
+  where
+    shorter : (x y : List ℕ) → take (c * b) x ≡ take (c * b) y → take (c * a) x ≡ take (c * a) y
+    shorter x y e = let l = mul-le-mul-left c (p .grows) in sym (take-take (c * a) (c * b) x l) ∙ ap (take (c * a)) e ∙ take-take (c * a) (c * b) y l
+
+    later : (x y : List ℕ) → drop (c * b) x ≡ drop (c * b) y → drop (c * d) x ≡ drop (c * d) y
+    later x y e =
+        let l = mul-le-mul-left c (q .grows) in
+        let k : c * b + (c * d - c * b) ≡ c * d = omega arith in
+        let f : (z : List ℕ) → drop (c * d) z ≡ drop (c * d - c * b) (drop (c * b) z)
+        = λ z. ap (λ j. drop j z) (sym k) ∙ sym (drop-drop (c * d - c * b) (c * b) z) in
+        f x ∙ ap (drop (c * d - c * b)) e ∙ sym (f y)
+
+pub false≢true : false ≡ true → ⊥
+false≢true e = let z : _≡_ {A = ℕ} 0 1 = cc in omega arith
+
+and-left : (a b : Bool) → (a && b) ≡ true → a ≡ true
+and-left true b e = refl
+and-left false b e = e
+
+-- nothing is done after a failure
+pub performs-stuck : {K : Kind} {p : Prog} {s : Arena} {m w : List ℕ} → s .ok ≡ false → Performs K p s m m w w s
+performs-stuck e = record {
+  runs = λ B R. record { okay = rw e; done = λ t. absurd (false≢true (sym e ∙ t)); writes = writes-same (R .room); wide = refl };
+}
+
+-- TWO CALLS, one after the other
+ext-longer : (K : Kind) {S S′ : Store} → Extends S S′ → length (nodes K S) ≤ length (nodes K S′)
+ext-longer K {S} {S′} E = omega (arith, ap length (E .split K), length-append (nodes K S) (E .tail K))
+
+-- what did not fit does not fit later
+over-then : (K : Kind) (p : Prog) (f : ℕ → Prog) (S : Store) (b : Bool) (n : ℕ) → (b && leb (ends K p S) n) ≡ false
+    → (b && leb (ends K (bind p f) S) n) ≡ false
+unfolding ends run
+over-then K p f S false n e = refl
+over-then K p f S true n e = lt-leb _ n (omega (
+  arith,
+  leb-false (length (nodes K (run p S .store))) n e,
+  ext-longer K
+      (run-ext (f (run p S .value)) (run p S .store)),
+))
+
+module _ {K : Kind} {p : Prog} {B : Store} {s r : Arena} {m m′ w w′ : List ℕ} (d : Runs K p B s m m′ w w′ r) where
+  pub was-ok : r .ok ≡ true → s .ok ≡ true
+  was-ok t = and-left (s .ok) _ (sym (d .okay) ∙ t)
+
+  -- the nodes and the value are the run's
+  pub done-ran : r .ok ≡ true → ran (plain K B m′ (r .n)) (r .h) ≡ run p (plain K B m (s .n))
+  done-ran t i = ran (d .done t .store i) (d .done t .value i)
+
+module _ {K : Kind} {p : Prog} {f : ℕ → Prog} {s r₁ r₂ : Arena} {m m₁ m₂ w w₁ w₂ : List ℕ} (d : Performs K p s m m₁ w w₁ r₁)
+    (e : Performs K (f (r₁ .h)) r₁ m₁ m₂ w₁ w₂ r₂) (B : Store) (R : Ready K (bind p f) B s m w) where
+  first-runs : Runs K p B s m m₁ w w₁ r₁
+  unfolding Safe
+  first-runs = d .runs B (record { room = R .room; live = λ t. record { safe = R .live t .safe .0; work = R .live t .work } })
+
+  second-runs : Runs K (f (r₁ .h)) B r₁ m₁ m₂ w₁ w₂ r₂
+  unfolding Safe
+  second-runs = let a = first-runs in e .runs B (record {
+    room = subst (λ n. r₁ .n ≤ n) (sym (places-same (arity K) m m₁ (a .writes .long))) (a .writes .most);
+    live = λ t. record {
+      safe = subst (λ (Q : Ran). Safe (f (Q .value)) (Q .store)) (sym (done-ran a t)) (R .live (was-ok a t) .safe .1);
+      work = a .done t .work;
+    };
+  })
+
+  -- the second run from where the first ended
+  both-ran : r₁ .ok ≡ true → run (f (r₁ .h)) (plain K B m₁ (r₁ .n)) ≡ run (bind p f) (plain K B m (s .n))
+  unfolding run
+  both-ran t = ap (λ (Q : Ran). run (f (Q .value)) (Q .store)) (done-ran first-runs t)
+
+  both-okay : r₂ .ok ≡ (s .ok && leb (ends K (bind p f) (plain K B m (s .n))) (places (arity K) m))
+  unfolding ends
+  both-okay = let a = first-runs in let b = second-runs in by-test
+      (λ t. r₁ .ok ≡ t → r₂ .ok ≡ (s .ok && leb (ends K (bind p f) (plain K B m (s .n))) (places (arity K) m))) (r₁ .ok)
+      (λ x t. b .okay ∙ (λ i. t i && leb (length (nodes K (both-ran t i .store))) (places-same (arity K) m m₁ (a .writes .long) i))
+      ∙ ap (λ b. b && leb (ends K (bind p f) (plain K B m (s .n))) (places (arity K) m)) (sym (was-ok a t)))
+      (λ x t. b .okay ∙ ap (λ b. b && leb (ends K (f (r₁ .h)) (plain K B m₁ (r₁ .n))) (places (arity K) m₁)) t
+      ∙ sym (over-then K p f (plain K B m (s .n)) (s .ok) (places (arity K) m) (sym (a .okay) ∙ t)))
+      refl
+
+  both-runs : Runs K (bind p f) B s m m₂ w w₂ r₂
+  both-runs = let a = first-runs in let b = second-runs in record {
+    okay = both-okay;
+    done = λ t. let u = was-ok b t in record {
+      store = b .done t .store ∙ ap (λ (Q : Ran). Q .store) (both-ran u);
+      value = b .done t .value ∙ ap (λ (Q : Ran). Q .value) (both-ran u);
+      work = b .done t .work;
+    };
+    writes = writes-then (a .writes) (b .writes);
+    wide = b .wide ∙ a .wide;
+  }
+
+pub performs-then : {K : Kind} {p : Prog} {f : ℕ → Prog} {s r₁ r₂ : Arena} {m m₁ m₂ w w₁ w₂ : List ℕ} → Performs K p s m m₁ w w₁ r₁
+    → Performs K (f (r₁ .h)) r₁ m₁ m₂ w₁ w₂ r₂ → Performs K (bind p f) s m m₂ w w₂ r₂
+performs-then d e = record { runs = λ B R. both-runs d e B R }
+
+-- WHAT IS LEFT: the program p has come to q in S, where nothing was added yet
+pub record Left (p q : Prog) (S : Store) : Type 0 where
+  pub runs : run p S ≡ run q S
+  pub safe : Safe q S
+
+-- a function that began with p stands before q, over every store B that it may be given
+pub record Stands (K : Kind) (p q : Prog) (s : Arena) (m w : List ℕ) : Type 0 where
+  pub ok : s .ok ≡ true
+  pub left : (B : Store) → Ready K p B s m w → Left p q (plain K B m (s .n))
+
+module _ {K : Kind} {p : Prog} {s : Arena} {m w : List ℕ} where
+  pub begin : s .ok ≡ true → Stands K p p s m w
+  begin e = record { ok = e; left = λ B R. record { runs = refl; safe = R .live e .safe } }
+
+  -- the working memory is right wherever the function stands
+  pub right-at : {q : Prog} → Stands K p q s m w → (B : Store) → Ready K p B s m w → Right K B w m (s .n)
+  right-at u B R = R .live (u .ok) .work
+
+  module _ {q q′ : Prog} (u : Stands K p q s m w) where
+    pub turn : ((B : Store) → Ready K p B s m w → Safe q (plain K B m (s .n)) → Left q q′ (plain K B m (s .n))) → Stands K p q′ s m w
+    turn f = record {
+      ok = u .ok;
+      left = λ B R. let a = u .left B R in let b = f B R (a .safe) in record { runs = a .runs ∙ b .runs; safe = b .safe };
+    }
+
+    -- the same program by another name
+    pub by : q ≡ q′ → Stands K p q′ s m w
+    by e = turn (λ B R h. subst (λ x. Left q x (plain K B m (s .n))) e (record { runs = refl; safe = h }))
+
+  module _ {t : Test} {q q′ : Prog} (u : Stands K p (ask t q q′) s m w) where
+    -- the test holds; it does not
+    pub yes-where : ((B : Store) → Ready K p B s m w → Sure t (plain K B m (s .n)) → holds t (plain K B m (s .n)) ≡ true) → Stands K p q s m w
+    unfolding run Safe
+    yes-where f = turn u (λ B R h. let e = f B R (h .0) in record { runs = rw e; safe = rw e at (h .1) })
+
+    pub no-where : ((B : Store) → Ready K p B s m w → Sure t (plain K B m (s .n)) → holds t (plain K B m (s .n)) ≡ false) → Stands K p q′ s m w
+    unfolding run Safe
+    no-where f = turn u (λ B R h. let e = f B R (h .0) in record { runs = rw e; safe = rw e at (h .1) })
+
+  -- the children of h are x
+  pub looked : {f : List ℕ → Prog} {h : ℕ} {x : List ℕ} → Stands K p (look K h f) s m w → Looks K m h x → Stands K p (f x) s m w
+  unfolding run Safe
+  looked {f} {h} u l = turn u (λ B R a. let e = l .kids B (s .n) (R .room) (a .0) in record {
+    runs = ap (λ y. run (f y) (plain K B m (s .n))) e;
+    safe = subst (λ y. Safe (f y) (plain K B m (s .n))) e (a .1);
+  })
+
+  -- RETURNS: all that is left is done by a call; a number is left; nothing can be left at level 0
+  pub called : {q : Prog} {m′ w′ : List ℕ} {r : Arena} → Stands K p q s m w → Performs K q s m m′ w w′ r → Performs K p s m m′ w w′ r
+  unfolding ends
+  called u d = record {
+    runs = λ B R. let a = u .left B R in let b = d .runs B (record {
+      room = R .room;
+      live =
+          λ t. record { safe = a .safe; work = R .live t .work };
+    }) in record {
+      okay = b .okay ∙ ap (λ (Q : Ran). s .ok && leb (length (nodes K (Q .store))) (places (arity K) m)) (sym (a .runs));
+      done = λ t. record {
+        store = b .done t .store ∙ ap (λ (Q : Ran). Q .store) (sym (a .runs));
+        value = b .done t .value ∙ ap (λ (Q : Ran). Q .value) (sym (a .runs));
+        work = b .done t .work;
+      };
+      writes = b .writes;
+      wide = b .wide;
+    };
+  }
+
+  pub impossible : {m′ w′ : List ℕ} {r : Arena} → Stands K p panic s m w → Performs K p s m m′ w w′ r
+  unfolding Safe
+  impossible u = record { runs = λ B R. absurd (u .left B R .safe) }
+
+pub performs-ret : {K : Kind} {s r : Arena} {m w : List ℕ} (h : ℕ) → s .ok ≡ true → r ≡ arena (s .ok) (s .n) h → Performs K (ret h) s m m w w r
+unfolding run ends
+performs-ret {K} {s} {r} {m} {w} h e q = subst (λ x. Performs K (ret h) s m m w w x) (sym q) (record {
+  runs = λ B R. record {
+    okay = sym (ap (λ b. s .ok && b) (le-leb _ (places (arity K) m) (omega (arith, plain-length K B m (s .n), R .room))) ∙ rw e refl);
+    done = λ t. record { store = refl; value = refl; work = R .live e .work };
+    writes = writes-same (R .room);
+    wide = refl;
+  };
+})
+
+pub given : {K : Kind} {p : Prog} {s r : Arena} {m w : List ℕ} {h : ℕ} → Stands K p (ret h) s m w → r ≡ arena (s .ok) (s .n) h → Performs K p s m m w w r
+given {h = h} u q = called u (performs-ret h (u .ok) q)

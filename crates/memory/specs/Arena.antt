@@ -1,0 +1,95 @@
+-- What a function on the nodes of one kind does: it runs a program, within the places. Contracts hold over every store B
+-- that has the nodes of the other kind.
+use mathlib.Core.Path.{_≡_}
+use mathlib.Core.List.{List, [], _∷_}
+use mathlib.Core.Bool.{Bool, true, false, _&&_}
+use mathlib.Core.Logic.{_⊎_}
+use Prim.Native.Nat.{ℕ, _+_, _*_, _<_, _≤_}
+use lib.ListN.{length, getD, take, drop}
+use lib.Dec.{leb}
+use Rattle.nodes.specs.Store.{Kind, arity, Store, nodes, handle-of, sign, stored, get}
+use Rattle.nodes.specs.Programs.{Prog, mk, Ran, ran, run}
+use Rattle.nodes.specs.WellFormed.{Held, WellFormed}
+use Rattle.nodes.specs.Safety.{Within, Safe}
+use Rattle.memory.specs.Rows.{row, places, plain}
+use Rattle.memory.specs.Working.{memo-size, Has, Words, tag, Remembers, Right}
+use Rattle.memory.specs.Memo.{memo-program}
+use Rattle.memory.specs.declared.Arena.{Arena}
+use Rattle.memory.specs.declared.Properties.{Properties}
+use Rattle.memory.specs.declared.Found.{Found}
+use Rattle.memory.specs.declared.Found.the-variants.{Answer, Operands}
+
+abbrev pub arena : Bool → ℕ → ℕ → Arena
+arena ok n h = record { ok = ok; n = n; h = h }
+
+-- READY: the count is within the places and, as long as all before fitted, p is safe and the working memory right
+pub record Fitting (K : Kind) (p : Prog) (B : Store) (s : Arena) (m w : List ℕ) : Type 0 where
+  pub safe : Safe p (plain K B m (s .n))
+  pub work : Right K B w m (s .n)
+
+pub record Ready (K : Kind) (p : Prog) (B : Store) (s : Arena) (m w : List ℕ) : Type 0 where
+  pub room : s .n ≤ places (arity K) m
+  pub live : s .ok ≡ true → Fitting K p B s m w
+
+-- the count that p ends with
+unfoldable pub ends : Kind → Prog → Store → ℕ
+ends K p S = length (nodes K (run p S .store))
+
+-- only places from n up to n′ are written, and n′ stays within the places
+pub record Writes (c n : ℕ) (m m′ : List ℕ) (n′ : ℕ) : Type 0 where
+  pub grows : n ≤ n′
+  pub head : take (c * n) m′ ≡ take (c * n) m
+  pub rest : drop (c * n′) m′ ≡ drop (c * n′) m
+  pub most : n′ ≤ places c m
+  pub long : length m′ ≡ length m
+
+-- all fitted: the nodes and the value are p's, and the working memory is right for them
+pub record Done (K : Kind) (p : Prog) (B : Store) (s : Arena) (m m′ w′ : List ℕ) (r : Arena) : Type 0 where
+  pub store : plain K B m′ (r .n) ≡ run p (plain K B m (s .n)) .store
+  pub value : r .h ≡ run p (plain K B m (s .n)) .value
+  pub work : Right K B w′ m′ (r .n)
+
+-- RUNS: r is ok exactly where all before fitted and p ends within the places
+pub record Runs (K : Kind) (p : Prog) (B : Store) (s : Arena) (m m′ w w′ : List ℕ) (r : Arena) : Type 0 where
+  pub okay : r .ok ≡ (s .ok && leb (ends K p (plain K B m (s .n))) (places (arity K) m))
+  pub done : r .ok ≡ true → Done K p B s m m′ w′ r
+  pub writes : Writes (arity K) (s .n) m m′ (r .n)
+  pub wide : length w′ ≡ length w
+
+-- the contract of a function that runs p
+pub record Performs (K : Kind) (p : Prog) (s : Arena) (m m′ w w′ : List ℕ) (r : Arena) : Type 0 where
+  pub runs : (B : Store) → Ready K p B s m w → Runs K p B s m m′ w w′ r
+
+-- the node y, as `mk` is given it, joined at the place r .h
+pub record Joins (K : Kind) (y : List ℕ) (s : Arena) (m m′ w w′ : List ℕ) (r : Arena) : Type 0 where
+  pub place-small : r .h < 4096
+  pub joins : (B : Store) (h : ℕ) → Ready K (mk K y) B s m w → h ≡ handle-of K (sign y) (r .h)
+      → Runs K (mk K y) B s m m′ w w′ (arena (r .ok) (r .n) h)
+
+-- the same for every node y, as `mk` is given it, that is stored as x
+abbrev pub JoinsAs : List ℕ → Arena → List ℕ → List ℕ → List ℕ → List ℕ → Arena → Type 0
+JoinsAs x s m m′ w w′ r = (K : Kind) (y : List ℕ) → length x ≡ arity K → x ≡ stored K y → Joins K y s m m′ w w′ r
+
+-- a look: x is what the children of h are, where it has a node
+pub record Looks (K : Kind) (m : List ℕ) (h : ℕ) (x : List ℕ) : Type 0 where
+  pub kids : (B : Store) (n : ℕ) → n ≤ places (arity K) m → Within K (plain K B m n) h → get K (plain K B m n) h ≡ x
+
+-- the properties of a handle of level l
+pub record Tells (K : Kind) (m w : List ℕ) (l h : ℕ) (r : Properties) : Type 0 where
+  pub tells : (k : ℕ) (B : Store) (n : ℕ) → n ≤ places (arity K) m → WellFormed k (plain K B m n) → Words w (plain K B m n) → Held K (plain K B m n) l h
+      → Has K (plain K B m n) l h r
+
+-- what the memo w holds on an operation
+pub record Recalls (w : List ℕ) (op l a b : ℕ) (r : Found) : Type 0 where
+  pub recalls : (S : Store) (h : ℕ) → Remembers w S → r ≡ Answer h → run (memo-program op l a b) S ≡ ran S h
+
+-- each entry of the memo is the old one or that of the operation's answer; the rest is as it was
+pub record Keeps (w w′ : List ℕ) (op l a b h : ℕ) : Type 0 where
+  pub entries : (j : ℕ) → 4 * j + 3 < memo-size (length w) → (row 4 w′ j ≡ row 4 w j) ⊎ (row 4 w′ j ≡ tag op l ∷ a ∷ b ∷ h ∷ [])
+  pub rest : drop (memo-size (length w)) w′ ≡ drop (memo-size (length w)) w
+  pub wide : length w′ ≡ length w
+
+-- the memo keeps what the operation gave, where all fitted
+pub record Remembered (r : Arena) (op l a b : ℕ) (w w′ : List ℕ) : Type 0 where
+  pub kept : r .ok ≡ true → Keeps w w′ op l a b (r .h)
+  pub wide : length w′ ≡ length w

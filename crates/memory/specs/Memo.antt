@@ -1,0 +1,42 @@
+-- The operations that the memo keeps, by number: each is the part of its program that is left where no shortcut answers.
+use mathlib.Core.Bool.{Bool}
+use Prim.Native.Nat.{ℕ, _/_, _%_}
+use lib.Dec.{eqb}
+use Rattle.nodes.specs.Store.{Kind, set, rel, pick}
+use Rattle.nodes.specs.Programs.{Prog, panic}
+use Rattle.nodes.specs.Recursion.{node1, node2}
+use Rattle.nodes.specs.Operations.{complement-op, union-op, intersect-op, xor-op, difference-op, test, assign}
+use Rattle.nodes.specs.Relations.{sequence-op, star-op, flip-op}
+use Rattle.nodes.specs.Sets.{intersects-op, ifelse}
+use Rattle.nodes.specs.Images.{fwd-op, bwd-op, ifwd-op, diagonal-op, push-op, pull-op, has-image-op, has-path-node}
+
+-- the first program whose number is op
+abbrev entry : ℕ → ℕ → Prog → Prog → Prog
+entry op n p rest = pick (eqb op n) p rest
+
+-- operation op at level l on a and b; `ifelse` packs its field and first branch, `has_path` its two sets into one operand
+unfoldable pub memo-program : ℕ → ℕ → ℕ → ℕ → Prog
+memo-program op l a b =
+    entry op 1 (node2 (union-op set) l a b)
+    (entry op 2 (node2 (xor-op set) l a b)
+    (entry op 3 (node2 intersects-op l a b)
+    (entry op 4 (ifelse l (a % 64) (a / 64) b)
+    (entry op 5 (test set l a (eqb b 1))
+    (entry op 6 (node2 (union-op rel) l a b)
+    (entry op 7 (node2 intersect-op l a b)
+    (entry op 8 (node2 (xor-op rel) l a b)
+    (entry op 9 (node2 difference-op l a b)
+    (entry op 10 (node1 complement-op l a)
+    (entry op 11 (node2 sequence-op l a b)
+    (entry op 12 (node1 star-op l a)
+    (entry op 13 (node1 flip-op l a)
+    (entry op 14 (test rel l a (eqb b 1))
+    (entry op 15 (assign l a (eqb b 1))
+    (entry op 16 (node1 fwd-op l a)
+    (entry op 17 (node1 bwd-op l a)
+    (entry op 18 (node1 ifwd-op l a)
+    (entry op 19 (node1 diagonal-op l a)
+    (entry op 20 (node2 push-op l a b)
+    (entry op 21 (node2 pull-op l a b)
+    (entry op 22 (node2 has-image-op l a b)
+    (entry op 23 (has-path-node l (a / 65536) b (a % 65536)) panic))))))))))))))))))))))

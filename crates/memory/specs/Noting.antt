@@ -1,0 +1,47 @@
+-- What the functions on property words and on children do; c is the child count of a kind, m the nodes, w the working memory.
+use mathlib.Core.Path.{_≡_}
+use mathlib.Core.List.{List}
+use mathlib.Core.Bool.{Bool}
+use mathlib.Core.Logic.{_⊎_}
+use Prim.Native.Nat.{ℕ, _+_, _<_, _≤_}
+use lib.ListN.{length, getD, set}
+use lib.Dec.{eqb}
+use Rattle.nodes.specs.Store.{Kind, rel, arity, Store, get}
+use Rattle.nodes.specs.Programs.{ending, isIdentity, all-below, agrees}
+use Rattle.nodes.specs.WellFormed.{Held, WellFormed}
+use Rattle.nodes.specs.Safety.{Within}
+use Rattle.memory.specs.Rows.{places, plain}
+use Rattle.memory.specs.Working.{words-at, Known, Words}
+
+-- at most the word of place n changed, and it says nothing wrong of a node x there
+pub record Noted (K : Kind) (x : List ℕ) (n : ℕ) (w w′ : List ℕ) : Type 0 where
+  pub word : ℕ
+  pub known : (k : ℕ) (S : Store) (h : ℕ) → WellFormed k S → Words w S → 2 ≤ h → get K S h ≡ x → Known K S h word
+  pub written : ((length w ≤ words-at K (length w) + n) × (w′ ≡ w)) ⊎ (w′ ≡ set w (words-at K (length w) + n) word)
+
+-- the word of the node at place i; there is none from 4,096 on
+abbrev pub WordAt : List ℕ → ℕ → ℕ → ℕ → Type 0
+WordAt w c i r = ((K : Kind) → c ≡ arity K → i < 4096 → r ≡ getD w (words-at K (length w) + i) 0) × (4096 ≤ i → r ≡ 0)
+
+-- the word r says nothing wrong of a handle with the children x
+abbrev pub Gathers : List ℕ → List ℕ → ℕ → Type 0
+Gathers w x r = (K : Kind) (k : ℕ) (S : Store) (h : ℕ) → length x ≡ arity K → WellFormed k S → Words w S → 2 ≤ h → get K S h ≡ x → Known K S h r
+
+-- r is child d of h, where h has a node
+abbrev pub ChildOf : List ℕ → ℕ → ℕ → ℕ → ℕ → Type 0
+ChildOf m c h d r = (K : Kind) (B : Store) (n : ℕ) → c ≡ arity K → n ≤ places c m → Within K (plain K B m n) h → r ≡ getD (get K (plain K B m n) h) d 0
+
+-- whether all children of h are x
+abbrev pub ChildrenAre : List ℕ → ℕ → ℕ → ℕ → Bool → Type 0
+ChildrenAre m c h x r = (K : Kind) (B : Store) (n : ℕ) → c ≡ arity K → n ≤ places c m → Within K (plain K B m n) h
+    → r ≡ all-below c (λ d. eqb (getD (get K (plain K B m n) h) d 0) x)
+
+-- whether every walk from h, of level l, ends at v
+abbrev pub WalksTo : List ℕ → ℕ → ℕ → ℕ → ℕ → Bool → Type 0
+WalksTo m c l h v r = (K : Kind) (k : ℕ) (B : Store) (n : ℕ) → c ≡ arity K → n ≤ places c m → WellFormed k (plain K B m n) → Held K (plain K B m n) l h
+    → r ≡ agrees (λ ds. v) K l h (plain K B m n)
+
+-- whether the relation h, of level l, is the identity
+abbrev pub WalksIdentity : List ℕ → ℕ → ℕ → Bool → Type 0
+WalksIdentity m l h r = (k : ℕ) (B : Store) (n : ℕ) → n ≤ places 4 m → WellFormed k (plain rel B m n) → Held rel (plain rel B m n) l h
+    → r ≡ agrees (ending isIdentity) rel l h (plain rel B m n)

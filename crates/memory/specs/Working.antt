@@ -1,0 +1,91 @@
+-- The working memory: its parts, and when they are right for the nodes of a store.
+use mathlib.Core.Path.{_≡_}
+use mathlib.Core.List.{List, [], _∷_}
+use mathlib.Core.Bool.{Bool, true, false}
+use Prim.Native.Nat.{ℕ, zero, suc, _+_, _-_, _*_, _/_, _%_, _<_, _≤_, min}
+use lib.ListN.{length, getD}
+use lib.Dec.{eqb, ltb}
+use Rattle.nodes.specs.Store.{Kind, set, rel, arity, Store, nodes, pick, handle-of}
+use Rattle.nodes.specs.Programs.{Property, isEmpty, isUniversal, isIdentity, ending, agrees, ran, run}
+use Rattle.nodes.specs.WellFormed.{Held, WellFormed}
+use Rattle.nodes.specs.Safety.{Settled}
+use Rattle.memory.specs.Rows.{row, plain}
+use Rattle.memory.specs.Memo.{memo-program}
+use Rattle.memory.specs.declared.Properties.{Properties}
+
+-- PARTS, by the length of the whole: the memo; 4,096 bucket heads and 4,096 links of the index; a property word for each of 4,096
+-- places of relations, then of sets. The memo has what the others leave, at least 4,096 numbers where there are so many.
+abbrev pub memo-size : ℕ → ℕ
+memo-size l = pick (ltb l 20480) (min 4096 l) (l - 16384)
+
+abbrev pub links-at : ℕ → ℕ
+links-at l = memo-size l + 4096
+
+abbrev pub words-at : Kind → ℕ → ℕ
+words-at rel l = memo-size l + 8192
+words-at set l = memo-size l + 12288
+
+-- INDEX: chained buckets. A value is a node's place and one, or 0 for none.
+abbrev mixed : ℕ → List ℕ → ℕ
+mixed h [] = h
+mixed h (a ∷ x) = mixed ((h + a) * 1640531527 % 4294967296) x
+
+-- the bucket of a node: its numbers mixed into 32 bits, of which the top twelve are taken
+unfoldable pub bucket : List ℕ → ℕ
+bucket x = mixed 0 x / 1048576
+
+-- one more than the last place below n whose node is in bucket b, or 0
+unfoldable pub last-in : (ℕ → List ℕ) → ℕ → ℕ → ℕ
+last-in node b zero = 0
+last-in node b (suc n) = pick (eqb (bucket (node n)) b) (suc n) (last-in node b n)
+
+-- the head of a bucket is its last node; the link of a node is the last before it in its bucket
+pub record Chained (node : ℕ → List ℕ) (w : List ℕ) (n : ℕ) : Type 0 where
+  pub heads : (b : ℕ) → b < 4096 → getD w (memo-size (length w) + b) 0 ≡ last-in node b n
+  pub links : (i : ℕ) → i < n → getD w (links-at (length w) + i) 0 ≡ last-in node (bucket (node i)) i
+
+-- the index is right, where there is room for one
+abbrev pub Indexed : (ℕ → List ℕ) → List ℕ → ℕ → Type 0
+Indexed node w n = links-at (length w) + 4096 ≤ length w → Chained node w n
+
+-- PROPERTY WORDS: 0 says nothing, any other has a bit for each property
+abbrev pub bit-at : ℕ → ℕ → Bool
+bit-at b v = eqb (v / b % 2) 1
+
+abbrev pub properties-in : ℕ → Properties
+properties-in v = record { empty = bit-at 1 v; universal = bit-at 2 v; identity = bit-at 4 v }
+
+-- r has the properties of h, of level l; sets are not asked for the identity
+pub record Has (K : Kind) (S : Store) (l h : ℕ) (r : Properties) : Type 0 where
+  pub empty : agrees (ending isEmpty) K l h S ≡ r .empty
+  pub universal : agrees (ending isUniversal) K l h S ≡ r .universal
+  pub identity : K ≡ rel → agrees (ending isIdentity) K l h S ≡ r .identity
+
+-- the word v says nothing wrong of h
+abbrev pub Known : Kind → Store → ℕ → ℕ → Type 0
+Known K S h v = 0 < v → (l : ℕ) → Held K S l h → Has K S l h (properties-in v)
+
+-- no word says anything wrong of its node
+abbrev pub Words : List ℕ → Store → Type 0
+Words w S = (J : Kind) (i : ℕ) → i < 4096 → i < length (nodes J S) → Known J S (handle-of J 0 i) (getD w (words-at J (length w) + i) 0)
+
+-- MEMO: an entry is the operation's number and its level in a tag, the operands and the result; tag 0 is no entry.
+-- An entry's program is settled with that result.
+abbrev pub tag : ℕ → ℕ → ℕ
+tag op l = 256 * op + l
+
+unfoldable pub Entry : List ℕ → Store → Type 0
+Entry x S = 0 < getD x 0 0 → Settled (memo-program (getD x 0 0 / 256) (getD x 0 0 % 256) (getD x 1 0) (getD x 2 0)) S (getD x 3 0)
+
+abbrev pub Remembers : List ℕ → Store → Type 0
+Remembers w S = (j : ℕ) → 4 * j + 3 < memo-size (length w) → Entry (row 4 w j) S
+
+-- the working memory w is right for the first n nodes of m, of kind K, over the store B
+pub record Right (K : Kind) (B : Store) (w m : List ℕ) (n : ℕ) : Type 0 where
+  pub fields : ℕ
+  pub formed : WellFormed fields (plain K B m n)
+  pub memo : Remembers w (plain K B m n)
+  pub index : Indexed (row (arity K) m) w n
+  pub words : Words w (plain K B m n)
+  -- no word stands past the count yet
+  pub unset : (i : ℕ) → n ≤ i → i < 4096 → getD w (words-at K (length w) + i) 0 ≡ 0

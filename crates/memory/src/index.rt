@@ -1,0 +1,142 @@
+// The chained index over the nodes of one kind, c numbers a node: `find` and `enter`.
+ghost use mathlib.Core.Path.{_≡_};
+ghost use mathlib.Core.Bool.{Bool, true, false};
+ghost use Prim.Native.Nat.{ℕ, _+_, _*_, _%_, _<_, _≤_};
+ghost use lib.ListN.{length};
+ghost use Rattle.memory.specs.Rows.{row};
+ghost use Rattle.memory.specs.Working.{memo-size, bucket};
+ghost use Rattle.memory.specs.Finding.{Finds, Search, SearchAt, Entered};
+
+const PART: usize = 4096;
+
+// The numbers of the memo in a working memory of this length; the index follows them.
+pub fn memo_size(len: usize) -> usize
+    ensures { λ r. ⌜ (r ≡ memo-size len) × (r ≤ len) ⌝ }
+{
+    if len < 20480 {
+        if len < PART {
+            return len;
+        }
+        return PART;
+    }
+    len - 16384
+}
+
+// One more number mixed in.
+pub fn mix(h: u64, a: u32) -> u64
+    requires { ⌜ h < 4294967296 ⌝ }
+    ensures { λ r. ⌜ (r ≡ (h + a) * 1640531527 % 4294967296) × (r < 4294967296) ⌝ }
+{
+    (h + a as u64) * 1640531527 % 4294967296
+}
+
+// The bucket of a node.
+pub fn hash(x: &[u32]) -> usize
+    ensures { λ r. ⌜ (r ≡ bucket (now (x .entry))) × (r < 4096) ⌝ }
+{
+    let mut h: u64 = 0;
+    let mut j = 0;
+    while j < x.len() {
+        h = mix(h, x[j]);
+        j += 1;
+    }
+    (h / 1048576) as usize
+}
+
+// Whether two slices hold the same numbers.
+fn equal(a: &[u32], b: &[u32]) -> bool
+    ensures yes { λ r. ⌜ (r ≡ true → now (a .entry) ≡ now (b .entry)) ⌝ }
+    ensures no { λ r. ⌜ (r ≡ false → now (a .entry) ≡ now (b .entry) → ⊥) ⌝ }
+{
+    if a.len() != b.len() {
+        return false;
+    }
+    let mut j = 0;
+    while j < a.len() {
+        if a[j] != b[j] {
+            return false;
+        }
+        j += 1;
+    }
+    true
+}
+
+// Whether node i is x.
+fn same(nodes: &[u32], i: usize, x: &[u32]) -> bool
+    requires { ⌜ length (now x) * i + length (now x) ≤ length (now nodes) ⌝ }
+    ensures yes { λ r. ⌜ (r ≡ true → row (length (now (x .entry))) (now (nodes .entry)) i ≡ now (x .entry)) ⌝ }
+    ensures no { λ r. ⌜ (r ≡ false → row (length (now (x .entry))) (now (nodes .entry)) i ≡ now (x .entry) → ⊥) ⌝ }
+{
+    let c = x.len();
+    let b = c * i;
+    let e = b + c;
+    equal(&nodes[b..e], x)
+}
+
+// The search without an index.
+fn scan(nodes: &[u32], n: usize, x: &[u32]) -> usize
+    requires { ⌜ length (now x) * n ≤ length (now nodes) ⌝ }
+    ensures { λ r. ⌜ Finds (row (length (now (x .entry))) (now (nodes .entry))) n (now (x .entry)) true r ⌝ }
+{
+    let mut i = 0;
+    while i < n {
+        if same(nodes, i, x) {
+            return i;
+        }
+        i += 1;
+    }
+    n
+}
+
+// The search along the chain of the node's bucket; it ends whatever the index holds.
+fn chase(nodes: &[u32], work: &[u32], at: usize, n: usize, x: &[u32]) -> usize
+    requires { ⌜ (length (now x) * n ≤ length (now nodes)) × (at + 8192 ≤ length (now work)) × (n ≤ 4096) ⌝ }
+    ensures { λ r. ⌜ SearchAt (now (x .entry)) (now (nodes .entry)) (now (work .entry)) at n r ⌝ }
+{
+    let b = hash(x);
+    let mut v = crate::wide(work[at + b]);
+    while v != 0 {
+        if v > n {
+            return n;
+        }
+        let i = v - 1;
+        if same(nodes, i, x) {
+            return i;
+        }
+        let next = crate::wide(work[at + PART + i]);
+        if next >= v {
+            return n;
+        }
+        v = next;
+    }
+    n
+}
+
+// A place of the first n where x stands, or n; with an index of these nodes or none, n only where x is not among them.
+pub fn find(nodes: &[u32], work: &[u32], n: usize, x: &[u32]) -> usize
+    requires { ⌜ (length (now x) * n ≤ length (now nodes)) × (n ≤ 4096) ⌝ }
+    ensures { λ r. ⌜ Search (now (x .entry)) (now (nodes .entry)) (now (work .entry)) n r ⌝ }
+{
+    let at = memo_size(work.len());
+    if work.len() - at < 8192 {
+        return scan(nodes, n, x);
+    }
+    chase(nodes, work, at, n, x)
+}
+
+// Node n, of c numbers, joins the index.
+pub fn enter(nodes: &[u32], work: &mut [u32], c: usize, n: usize)
+    requires { ⌜ (c * n + c ≤ length (now nodes)) × (n < 4096) ⌝ }
+    ensures { λ _. ⌜ Entered (row c (now (nodes .entry))) n (now (work .entry)) (now (work .exit)) ⌝ }
+{
+    let at = memo_size(work.len());
+    if work.len() - at < 8192 {
+        return;
+    }
+    let s = c * n;
+    let e = s + c;
+    let b = hash(&nodes[s..e]);
+    let old = work[at + b];
+    work[at + PART + n] = old;
+    work[at + b] = n as u32 + 1;
+}
