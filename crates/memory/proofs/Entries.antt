@@ -40,8 +40,8 @@ hit w S j op l a b h i o R lt e =
     let s : Settled (memo-program op l a b) S h = rw (q, r) at (f (omega arith)) in
     s .again S ext-refl
 
-pub recalls-none : {w : List ℕ} {op l a b x y : ℕ} → Recalls w op l a b (Operands x y)
-recalls-none = record { recalls = λ S h R e. absurd (let z : _≡_ {A = ℕ} 0 1 = cc in omega arith) }
+pub recalls-none : {w : List ℕ} {op l a b : ℕ} → Recalls w op l a b (Operands a b)
+recalls-none = record { recalls = λ S h R e. absurd (let z : _≡_ {A = ℕ} 0 1 = cc in omega arith); else = λ x y e. (cc, cc) }
 
 pub recalls-hit : (w : List ℕ) (j op l a b : ℕ) → l < 256 → 0 < op → 4 * j + 3 < memo-size (length w) → memo-size (length w) ≤ length w
     → getD w (4 * j) 0 ≡ tag op l → getD w (4 * j + 1) 0 ≡ a → getD w (4 * j + 2) 0 ≡ b → Recalls w op l a b (Answer (getD w (4 * j + 3) 0))
@@ -49,6 +49,7 @@ recalls-hit w j op l a b i o lt m t ea eb = record {
   recalls = λ S h R e.
       let eh : getD w (4 * j + 3) 0 ≡ h = cc in
       hit w S j op l a b h i o R lt (four w (4 * j) (omega arith) ∙ rw (t, ea, eb, eh));
+  else = λ x y e. absurd (let z : _≡_ {A = ℕ} 0 1 = cc in omega arith);
 }
 
 -- WRITING

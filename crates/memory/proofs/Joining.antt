@@ -366,7 +366,6 @@ module _ {K : Kind} {B : Store} {s : Arena} {m w : List ℕ} (y x : List ℕ) (o
 module _ {K : Kind} {s : Arena} {m w : List ℕ} (y x : List ℕ) where
   pub joins-stuck : s .ok ≡ false → Joins K y s m m w w (arena false (s .n) 0)
   joins-stuck f = record {
-    place-small = omega arith;
     joins = λ B h R v. record {
       okay = sym (ap (λ b. b && leb (ends K (mk K y) (plain K B m (s .n))) (places (arity K) m)) f);
       done = λ t. absurd
@@ -377,12 +376,11 @@ module _ {K : Kind} {s : Arena} {m w : List ℕ} (y x : List ℕ) where
   }
 
   pub joins-never : length x ≡ arity K → places (length x) m < s .n → Joins K y s m m w w (arena false (s .n) 0)
-  joins-never z l = record { place-small = omega arith; joins = λ B h R v. absurd (omega (arith, R .room, subst (λ c. places c m < s .n) z l)) }
+  joins-never z l = record { joins = λ B h R v. absurd (omega (arith, R .room, subst (λ c. places c m < s .n) z l)) }
 
   module _ (ok : s .ok ≡ true) (z : length x ≡ arity K) (e : x ≡ stored K y) (r : ℕ) (F : Search x m w (s .n) r) where
-    pub joins-found : r < s .n → r < 4096 → Joins K y s m m w w (arena true (s .n) r)
-    joins-found l b = record {
-      place-small = b;
+    pub joins-found : r < s .n → Joins K y s m m w w (arena true (s .n) r)
+    joins-found l = record {
       joins = λ B h R v. join-found y x ok R e r h l (subst (λ c. row c m r ≡ x) z (F false (λ q. absurd (false≢true q)) .hit l)) v;
     }
 
@@ -392,13 +390,12 @@ module _ {K : Kind} {s : Arena} {m w : List ℕ} (y x : List ℕ) where
         f .none refl (omega (arith, f .low)) i l (subst (λ c. row c m i ≡ x) (sym z) q)
 
     pub joins-full : ¬ (r < s .n) → places (length x) m ≤ s .n → Joins K y s m m w w (arena false (s .n) 0)
-    joins-full o l = record { place-small = omega arith; joins = λ B h R v. join-full y x ok R e (no-node R o) h (subst (λ c. places c m ≤ s .n) z l) }
+    joins-full o l = record { joins = λ B h R v. join-full y x ok R e (no-node R o) h (subst (λ c. places c m ≤ s .n) z l) }
 
     pub joins-new : (m′ w₁ w₂ : List ℕ) → ¬ (r < s .n) → s .n < places (length x) m → m′ ≡ paste m (length x * s .n) x (length x)
         → ((K : Kind) → length x ≡ arity K → Noted K x (s .n) w w₁) → Entered (row (length x) m′) (s .n) w₁ w₂
         → Joins K y s m m′ w w₂ (arena true (s .n + 1) (s .n))
     joins-new m′ w₁ w₂ o l p N E = record {
-      place-small = omega arith;
       joins = λ B h R v. join-new y x ok R e (no-node R o) m′ w₁ w₂ z (subst (λ c. s .n < places c m) z l) (subst (λ c. m′ ≡ paste m (c * s .n) x c) z p)
           (N K z)
           (subst (λ c. Entered (row c m′) (s .n) w₁ w₂) z E) h v;

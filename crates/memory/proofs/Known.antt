@@ -14,6 +14,7 @@ use Rattle.nodes.specs.WellFormed.{Held, WellFormed}
 use Rattle.nodes.proofs.Bools.{by-test, on-digits}
 use Rattle.nodes.proofs.Signs.{signed-twice, index-handle}
 use Rattle.nodes.proofs.Canonical.{walk-bit}
+use Rattle.nodes.proofs.Canonical.{formed-sized}
 use Rattle.nodes.proofs.Complements.{signed-held, signed-walk}
 use Rattle.nodes.proofs.Tests.{agrees-walk, walk-agrees}
 use Rattle.memory.specs.Working.{words-at, properties-in, Has, Known, Words}
@@ -74,7 +75,7 @@ other-agrees {S = S} l h b i F A = both-ways _ _
 pub known-other : (k : ℕ) (S : Store) (h v r : ℕ) → 0 < v → properties-in r ≡ properties (properties-in v .universal) (properties-in v .empty) false
     → WellFormed k S → Known set S h v → Known set S (signed 1 h) r
 known-other k S h v r i e F W p l A =
-    let B : Held set S l h = subst (λ (g : ℕ). Held set S l g) (signed-twice 1 h) (signed-held F l 1 (signed 1 h) A) in
+    let B : Held set S l h = subst (λ (g : ℕ). Held set S l g) (signed-twice 1 h) (signed-held (formed-sized set F) l 1 (signed 1 h) A) in
     let H = W i l B in
     rw e (record {
       empty = other-agrees l h 1 (omega arith) F B ∙ H .universal;

@@ -7,3 +7,4 @@ pub mod Walks
 pub mod Steps
 pub mod Remembering
 pub mod Joining
+pub mod Looking

@@ -1,6 +1,6 @@
 -- The working memory stays right: where the memo keeps the answer of a finished run, and where a number outside a part changes.
 -- a part of the working memory goes by its own numbers
-use mathlib.Core.Path.{_≡_, sym, ap, _∙_, subst}
+use mathlib.Core.Path.{_≡_, refl, sym, ap, _∙_, subst}
 use mathlib.Core.Logic.{inl, inr}
 use mathlib.Core.List.{List, [], _∷_}
 use mathlib.Core.Bool.{true}
@@ -12,16 +12,16 @@ use lib.Seq.{getD-drop}
 use Rattle.nodes.specs.Operations.{fields}
 use Rattle.nodes.specs.Programs.{Prog, ret, Ran, run}
 use Rattle.nodes.specs.Safety.{Safe, Settled}
-use Rattle.nodes.specs.Store.{Kind, set, rel, Store, index, handle-of}
+use Rattle.nodes.specs.Store.{Kind, set, rel, arity, Store, index, handle-of}
 use Rattle.nodes.proofs.Settle.{settled}
 use Rattle.memory.specs.declared.Arena.{Arena}
 use Rattle.memory.specs.declared.Found.{Found}
-use Rattle.memory.specs.declared.Found.the-variants.{Answer}
-use Rattle.memory.specs.Arena.{Ready, Performs, Recalls, Keeps, Remembered}
+use Rattle.memory.specs.declared.Found.the-variants.{Answer, Operands}
+use Rattle.memory.specs.Arena.{Ready, Performs, Left, answered, Answers, Recalls, Keeps, Remembered}
 use Rattle.memory.specs.Memo.{memo-program}
-use Rattle.memory.specs.Rows.{row, plain}
-use Rattle.memory.specs.Working.{memo-size, links-at, words-at, Indexed, Known, tag, Entry, Remembers}
-use Rattle.memory.proofs.Steps.{was-ok, done-ran, Stands, right-at, turn}
+use Rattle.memory.specs.Rows.{row, places, plain}
+use Rattle.memory.specs.Working.{memo-size, links-at, words-at, Indexed, Known, tag, Entry, Remembers, Right}
+use Rattle.memory.proofs.Steps.{was-ok, done-ran, Stands, turn}
 
 pub drop-at-same : (n : ℕ) (w w′ : List ℕ) → drop n w′ ≡ drop n w → (i : ℕ) → getD w′ (n + i) 0 ≡ getD w (n + i) 0
 drop-at-same n w w′ e i = sym (getD-drop n w′ i 0) ∙ ap (λ l. getD l i 0) e ∙ getD-drop n w i 0
@@ -94,11 +94,21 @@ performs-remember {K} {p} {s} {r} {m} {m′} {w} {w₁} {w₂} op l a b e i d k 
         (subst (λ (Q : Ran). Settled p (Q .store) (Q .value)) (sym (done-ran c t)) (settled p S (R .live (was-ok c t) .safe)))
 
 -- the memo knows the answer of what is left
-pub recalled : {K : Kind} {p q : Prog} {s : Arena} {m w : List ℕ} {h : ℕ} {r : Found} (op l a b : ℕ) → q ≡ memo-program op l a b → Stands K p q s m w
-    → Recalls w op l a b r → r ≡ Answer h
-    → Stands K p (ret h) s m w
+pub recalled : {K : Kind} {p q : Prog} {m w : List ℕ} {h : ℕ} {r : Found} (op l a b : ℕ) → q ≡ memo-program op l a b → Stands K p q m w
+    → Recalls w op l a b r → r ≡ Answer h → Stands K p (ret h) m w
 unfolding run Safe
-recalled {K} {p} {q} {s} {m} {w} {h} op l a b e u k f = turn u (λ B R x. record {
-  runs = ap (λ z. run z (plain K B m (s .n))) e ∙ k .recalls (plain K B m (s .n)) h (right-at u B R .memo) f;
+recalled {K} {m = m} {h = h} op l a b e u k f = turn u (λ B n i x R. record {
+  runs = ap (λ z. run z (plain K B m n)) e ∙ k .recalls (plain K B m n) h (R .memo) f;
   safe = tt;
 })
+
+-- shortcuts that leave a node ask the memo
+pub answer-recalled : {K : Kind} {p : Prog} {node : ℕ → ℕ → Prog} {m w : List ℕ} {r : Found} (op l a b : ℕ) → node a b ≡ memo-program op l a b
+    → Stands K p (node a b) m w → Recalls w op l a b r → Answers K p node m w r
+unfolding run
+answer-recalled {K} {p} {node} {m} {w} {r} op l a b e u k = record { answers = λ B n i s R. go B n i s R r refl }
+  where
+    go : (B : Store) (n : ℕ) → n ≤ places (arity K) m → Safe p (plain K B m n) → Right K B w m n → (z : Found) → r ≡ z → answered p node (plain K B m n) z
+    go B n i s R (Answer h) f = recalled op l a b e u k f .left B n i s R .runs
+    go B n i s R (Operands x y) f = let q = k .else x y f in
+        subst (λ x. Left p (node x y) (plain K B m n)) (sym (q .0)) (subst (λ y. Left p (node a y) (plain K B m n)) (sym (q .1)) (u .left B n i s R))

@@ -7,16 +7,19 @@ use native.Mathlib.Omega.{arith}
 use native.Mathlib.Nat.{mul-le-mul-left}
 use lib.ListN.{length, take, drop, length-append}
 use lib.Seq.{drop-drop, take-take}
-use lib.Dec.{leb}
+use lib.Dec.{eqb, ltb, leb}
 use borrow.Author.Tests.{le-leb, lt-leb, leb-false}
-use Rattle.nodes.specs.Programs.{Test, holds, Prog, panic, ret, ask, look, bind, Ran, ran, run}
+use Rattle.nodes.specs.Programs.{isEmpty, isUniversal, Test, same, less, has, holds, Prog, panic, ret, ask, look, bind, Ran, ran, run}
 use Rattle.nodes.specs.Safety.{Sure, Safe}
 use Rattle.nodes.specs.Store.{Kind, arity, Store, nodes}
 use Rattle.nodes.specs.WellFormed.{Extends}
 use Rattle.nodes.proofs.Bools.{by-test}
 use Rattle.nodes.proofs.Settle.{run-ext}
 use Rattle.memory.specs.declared.Arena.{Arena}
-use Rattle.memory.specs.Arena.{arena, Ready, ends, Writes, Runs, Performs, Looks}
+use Rattle.memory.specs.declared.Properties.{Properties}
+use Rattle.memory.specs.declared.Found.{Found}
+use Rattle.memory.specs.declared.Found.the-variants.{Answer, Operands}
+use Rattle.memory.specs.Arena.{arena, Ready, ends, Writes, Runs, Performs, Left, answered, Answers, Looks, Tells}
 use Rattle.memory.specs.Rows.{places, plain}
 use Rattle.memory.specs.Working.{Right}
 use Rattle.memory.proofs.Rows.{plain-length}
@@ -131,87 +134,149 @@ pub performs-then : {K : Kind} {p : Prog} {f : ℕ → Prog} {s r₁ r₂ : Aren
     → Performs K (f (r₁ .h)) r₁ m₁ m₂ w₁ w₂ r₂ → Performs K (bind p f) s m m₂ w w₂ r₂
 performs-then d e = record { runs = λ B R. both-runs d e B R }
 
--- WHAT IS LEFT: the program p has come to q in S, where nothing was added yet
-pub record Left (p q : Prog) (S : Store) : Type 0 where
-  pub runs : run p S ≡ run q S
-  pub safe : Safe q S
+-- STANDS: a function that began with p stands before q, over every store that it may be given
+pub record Stands (K : Kind) (p q : Prog) (m w : List ℕ) : Type 0 where
+  pub left : (B : Store) (n : ℕ) → n ≤ places (arity K) m → Safe p (plain K B m n) → Right K B w m n → Left p q (plain K B m n)
 
--- a function that began with p stands before q, over every store B that it may be given
-pub record Stands (K : Kind) (p q : Prog) (s : Arena) (m w : List ℕ) : Type 0 where
-  pub ok : s .ok ≡ true
-  pub left : (B : Store) → Ready K p B s m w → Left p q (plain K B m (s .n))
+-- the test t has the answer b wherever it may be made
+pub record Decides (K : Kind) (m w : List ℕ) (t : Test) (b : Bool) : Type 0 where
+  pub decides : (B : Store) (n : ℕ) → n ≤ places (arity K) m → Right K B w m n → Sure t (plain K B m n) → holds t (plain K B m n) ≡ b
 
-module _ {K : Kind} {p : Prog} {s : Arena} {m w : List ℕ} where
-  pub begin : s .ok ≡ true → Stands K p p s m w
-  begin e = record { ok = e; left = λ B R. record { runs = refl; safe = R .live e .safe } }
+module _ {K : Kind} {p : Prog} {m w : List ℕ} where
+  pub begin : Stands K p p m w
+  begin = record { left = λ B n l a R. record { runs = refl; safe = a } }
 
-  -- the working memory is right wherever the function stands
-  pub right-at : {q : Prog} → Stands K p q s m w → (B : Store) → Ready K p B s m w → Right K B w m (s .n)
-  right-at u B R = R .live (u .ok) .work
+  pub turn : {q q′ : Prog} → Stands K p q m w
+      → ((B : Store) (n : ℕ) → n ≤ places (arity K) m → Safe q (plain K B m n) → Right K B w m n → Left q q′ (plain K B m n)) → Stands K p q′ m w
+  turn u f = record {
+    left = λ B n l a R. let x = u .left B n l a R in let y = f B n l (x .safe) R in record { runs = x .runs ∙ y .runs; safe = y .safe };
+  }
 
-  module _ {q q′ : Prog} (u : Stands K p q s m w) where
-    pub turn : ((B : Store) → Ready K p B s m w → Safe q (plain K B m (s .n)) → Left q q′ (plain K B m (s .n))) → Stands K p q′ s m w
-    turn f = record {
-      ok = u .ok;
-      left = λ B R. let a = u .left B R in let b = f B R (a .safe) in record { runs = a .runs ∙ b .runs; safe = b .safe };
-    }
+  pub further : {q q′ : Prog} → Stands K p q m w → Stands K q q′ m w → Stands K p q′ m w
+  further u v = turn u (λ B n l a R. v .left B n l a R)
 
-    -- the same program by another name
-    pub by : q ≡ q′ → Stands K p q′ s m w
-    by e = turn (λ B R h. subst (λ x. Left q x (plain K B m (s .n))) e (record { runs = refl; safe = h }))
+  -- the same program by another name
+  pub by : {q q′ : Prog} → Stands K p q m w → q ≡ q′ → Stands K p q′ m w
+  by {q} u e = turn u (λ B n l a R. subst (λ x. Left q x (plain K B m n)) e (record { runs = refl; safe = a }))
 
-  module _ {t : Test} {q q′ : Prog} (u : Stands K p (ask t q q′) s m w) where
-    -- the test holds; it does not
-    pub yes-where : ((B : Store) → Ready K p B s m w → Sure t (plain K B m (s .n)) → holds t (plain K B m (s .n)) ≡ true) → Stands K p q s m w
-    unfolding run Safe
-    yes-where f = turn u (λ B R h. let e = f B R (h .0) in record { runs = rw e; safe = rw e at (h .1) })
+  -- the test holds; it does not
+  pub yes : {t : Test} {q q′ : Prog} → Stands K p (ask t q q′) m w → Decides K m w t true → Stands K p q m w
+  unfolding run Safe
+  yes u f = turn u (λ B n l a R. let e = f .decides B n l R (a .0) in record { runs = rw e; safe = rw e at (a .1) })
 
-    pub no-where : ((B : Store) → Ready K p B s m w → Sure t (plain K B m (s .n)) → holds t (plain K B m (s .n)) ≡ false) → Stands K p q′ s m w
-    unfolding run Safe
-    no-where f = turn u (λ B R h. let e = f B R (h .0) in record { runs = rw e; safe = rw e at (h .1) })
+  pub no : {t : Test} {q q′ : Prog} → Stands K p (ask t q q′) m w → Decides K m w t false → Stands K p q′ m w
+  unfolding run Safe
+  no u f = turn u (λ B n l a R. let e = f .decides B n l R (a .0) in record { runs = rw e; safe = rw e at (a .1) })
 
   -- the children of h are x
-  pub looked : {f : List ℕ → Prog} {h : ℕ} {x : List ℕ} → Stands K p (look K h f) s m w → Looks K m h x → Stands K p (f x) s m w
+  pub looked : {f : List ℕ → Prog} {h : ℕ} {x : List ℕ} → Stands K p (look K h f) m w → Looks K m h x → Stands K p (f x) m w
   unfolding run Safe
-  looked {f} {h} u l = turn u (λ B R a. let e = l .kids B (s .n) (R .room) (a .0) in record {
-    runs = ap (λ y. run (f y) (plain K B m (s .n))) e;
-    safe = subst (λ y. Safe (f y) (plain K B m (s .n))) e (a .1);
+  looked {f} u k = turn u (λ B n l a R. let e = k .kids B n l (a .0) in record {
+    runs = ap (λ y. run (f y) (plain K B m n)) e;
+    safe = subst (λ y. Safe (f y) (plain K B m n)) e (a .1);
   })
 
   -- RETURNS: all that is left is done by a call; a number is left; nothing can be left at level 0
-  pub called : {q : Prog} {m′ w′ : List ℕ} {r : Arena} → Stands K p q s m w → Performs K q s m m′ w w′ r → Performs K p s m m′ w w′ r
+  pub called : {q : Prog} {s r : Arena} {m′ w′ : List ℕ} → s .ok ≡ true → Stands K p q m w → Performs K q s m m′ w w′ r → Performs K p s m m′ w w′ r
   unfolding ends
-  called u d = record {
-    runs = λ B R. let a = u .left B R in let b = d .runs B (record {
-      room = R .room;
-      live =
-          λ t. record { safe = a .safe; work = R .live t .work };
-    }) in record {
-      okay = b .okay ∙ ap (λ (Q : Ran). s .ok && leb (length (nodes K (Q .store))) (places (arity K) m)) (sym (a .runs));
-      done = λ t. record {
-        store = b .done t .store ∙ ap (λ (Q : Ran). Q .store) (sym (a .runs));
-        value = b .done t .value ∙ ap (λ (Q : Ran). Q .value) (sym (a .runs));
-        work = b .done t .work;
-      };
-      writes = b .writes;
-      wide = b .wide;
-    };
+  called {s = s} ok u d = record {
+    runs = λ B R. let F = R .live ok in let a = u .left B (s .n) (R .room) (F .safe) (F .work) in
+        let b = d .runs B (record { room = R .room; live = λ t. record { safe = a .safe; work = F .work } }) in record {
+          okay = b .okay ∙ ap (λ (Q : Ran). s .ok && leb (length (nodes K (Q .store))) (places (arity K) m)) (sym (a .runs));
+          done = λ t. record {
+            store = b .done t .store ∙ ap (λ (Q : Ran). Q .store) (sym (a .runs));
+            value = b .done t .value ∙ ap (λ (Q : Ran). Q .value) (sym (a .runs));
+            work = b .done t .work;
+          };
+          writes = b .writes;
+          wide = b .wide;
+        };
   }
 
-  pub impossible : {m′ w′ : List ℕ} {r : Arena} → Stands K p panic s m w → Performs K p s m m′ w w′ r
+  pub impossible : {s r : Arena} {m′ w′ : List ℕ} → s .ok ≡ true → Stands K p panic m w → Performs K p s m m′ w w′ r
   unfolding Safe
-  impossible u = record { runs = λ B R. absurd (u .left B R .safe) }
+  impossible {s = s} ok u = record { runs = λ B R. let F = R .live ok in absurd (u .left B (s .n) (R .room) (F .safe) (F .work) .safe) }
 
-pub performs-ret : {K : Kind} {s r : Arena} {m w : List ℕ} (h : ℕ) → s .ok ≡ true → r ≡ arena (s .ok) (s .n) h → Performs K (ret h) s m m w w r
+-- tests on numbers, and on the properties that were told
+pub same-says : {K : Kind} {m w : List ℕ} {a b : ℕ} {v : Bool} → eqb a b ≡ v → Decides K m w (same a b) v
+same-says e = record { decides = λ B n l R s. e }
+
+pub less-says : {K : Kind} {m w : List ℕ} {a b : ℕ} {v : Bool} → ltb a b ≡ v → Decides K m w (less a b) v
+less-says e = record { decides = λ B n l R s. e }
+
+module _ {K : Kind} {m w : List ℕ} {l h : ℕ} {r : Properties} {v : Bool} (T′ : Tells K m w l h r) where
+  pub empty-says : r .empty ≡ v → Decides K m w (has isEmpty K l h) v
+  empty-says e = record { decides = λ B n i R s. T′ .tells (R .fields) B n i (R .formed) (R .words) s .empty ∙ e }
+
+  pub universal-says : r .universal ≡ v → Decides K m w (has isUniversal K l h) v
+  universal-says e = record { decides = λ B n i R s. T′ .tells (R .fields) B n i (R .formed) (R .words) s .universal ∙ e }
+
+-- a number is given, after a failure or not
+pub performs-ret : {K : Kind} {s r : Arena} {m w : List ℕ} (h : ℕ) → r ≡ arena (s .ok) (s .n) h → Performs K (ret h) s m m w w r
 unfolding run ends
-performs-ret {K} {s} {r} {m} {w} h e q = subst (λ x. Performs K (ret h) s m m w w x) (sym q) (record {
+performs-ret {K} {s} {r} {m} {w} h q = subst (λ x. Performs K (ret h) s m m w w x) (sym q) (record {
   runs = λ B R. record {
-    okay = sym (ap (λ b. s .ok && b) (le-leb _ (places (arity K) m) (omega (arith, plain-length K B m (s .n), R .room))) ∙ rw e refl);
-    done = λ t. record { store = refl; value = refl; work = R .live e .work };
+    okay = sym (ap (λ b. s .ok && b) (le-leb _ (places (arity K) m) (omega (arith, plain-length K B m (s .n), R .room))) ∙ and-true (s .ok));
+    done = λ t. record { store = refl; value = refl; work = R .live t .work };
     writes = writes-same (R .room);
     wide = refl;
   };
 })
+  where
+    and-true : (b : Bool) → (b && true) ≡ b
+    and-true true = refl
+    and-true false = refl
 
-pub given : {K : Kind} {p : Prog} {s r : Arena} {m w : List ℕ} {h : ℕ} → Stands K p (ret h) s m w → r ≡ arena (s .ok) (s .n) h → Performs K p s m m w w r
-given {h = h} u q = called u (performs-ret h (u .ok) q)
+pub given : {K : Kind} {p : Prog} {s r : Arena} {m w : List ℕ} {h : ℕ} → s .ok ≡ true → Stands K p (ret h) m w → r ≡ arena (s .ok) (s .n) h
+    → Performs K p s m m w w r
+given {h = h} ok u q = called ok u (performs-ret h q)
+
+-- the same program by another name
+pub performs-by : {K : Kind} {p q : Prog} {s r : Arena} {m m′ w w′ : List ℕ} → p ≡ q → Performs K q s m m′ w w′ r → Performs K p s m m′ w w′ r
+performs-by {K} {s = s} {r = r} {m = m} {m′ = m′} {w = w} {w′ = w′} e d = subst (λ x. Performs K x s m m′ w w′ r) (sym e) d
+
+-- a test on numbers made between two calls, after a failure or not
+performs-test : {K : Kind} {p q : Prog} {s r : Arena} {m m′ w w′ : List ℕ} → ((S : Store) → run p S ≡ run q S) → ((S : Store) → Safe p S → Safe q S)
+    → Performs K q s m m′ w w′ r → Performs K p s m m′ w w′ r
+unfolding ends
+performs-test {K} {s = s} {m = m} e f d = record {
+  runs = λ B R. let S = plain K B m (s .n) in
+      let b = d .runs B (record { room = R .room; live = λ t. record { safe = f S (R .live t .safe); work = R .live t .work } }) in record {
+        okay = b .okay ∙ ap (λ (Q : Ran). s .ok && leb (length (nodes K (Q .store))) (places (arity K) m)) (sym (e S));
+        done = λ t. record {
+          store = b .done t .store ∙ ap (λ (Q : Ran). Q .store) (sym (e S));
+          value = b .done t .value ∙ ap (λ (Q : Ran). Q .value) (sym (e S));
+          work = b .done t .work;
+        };
+        writes = b .writes;
+        wide = b .wide;
+      };
+}
+
+module _ {K : Kind} {q q′ : Prog} {s r : Arena} {m m′ w w′ : List ℕ} (a b : ℕ) where
+  pub performs-same : eqb a b ≡ true → Performs K q s m m′ w w′ r → Performs K (ask (same a b) q q′) s m m′ w w′ r
+  unfolding run Safe
+  performs-same e = performs-test (λ S. rw e) (λ S h. rw e at (h .1))
+
+  pub performs-differ : eqb a b ≡ false → Performs K q′ s m m′ w w′ r → Performs K (ask (same a b) q q′) s m m′ w w′ r
+  unfolding run Safe
+  performs-differ e = performs-test (λ S. rw e) (λ S h. rw e at (h .1))
+
+-- ANSWERS of shortcuts
+module _ {K : Kind} {p : Prog} {node : ℕ → ℕ → Prog} {m w : List ℕ} where
+  pub answer : {h : ℕ} → Stands K p (ret h) m w → Answers K p node m w (Answer h)
+  unfolding run
+  answer u = record { answers = λ B n l a R. u .left B n l a R .runs }
+
+  pub answer-stands : {r : Found} {h : ℕ} → Answers K p node m w r → r ≡ Answer h → Stands K p (ret h) m w
+  unfolding run Safe
+  answer-stands {r} {h} a e = record {
+    left = λ B n l s R. record {
+      runs = subst (λ z. answered p node (plain K B m n) z) e
+          (a .answers B n l s R);
+      safe = tt;
+    };
+  }
+
+  pub node-stands : {r : Found} {x y : ℕ} → Answers K p node m w r → r ≡ Operands x y → Stands K p (node x y) m w
+  node-stands a e = record { left = λ B n l s R. subst (λ z. answered p node (plain K B m n) z) e (a .answers B n l s R) }

@@ -60,15 +60,28 @@ pub record Runs (K : Kind) (p : Prog) (B : Store) (s : Arena) (m m′ w w′ : L
 pub record Performs (K : Kind) (p : Prog) (s : Arena) (m m′ w w′ : List ℕ) (r : Arena) : Type 0 where
   pub runs : (B : Store) → Ready K p B s m w → Runs K p B s m m′ w w′ r
 
+-- LEFT: the program p has come to q in S, where nothing was added yet
+pub record Left (p q : Prog) (S : Store) : Type 0 where
+  pub runs : run p S ≡ run q S
+  pub safe : Safe q S
+
+-- shortcuts and memo know the answer of p, or that node is left on these operands
+abbrev pub answered : Prog → (ℕ → ℕ → Prog) → Store → Found → Type 0
+answered p node S (Answer h) = run p S ≡ ran S h
+answered p node S (Operands x y) = Left p (node x y) S
+
+pub record Answers (K : Kind) (p : Prog) (node : ℕ → ℕ → Prog) (m w : List ℕ) (r : Found) : Type 0 where
+  pub answers : (B : Store) (n : ℕ) → n ≤ places (arity K) m → Safe p (plain K B m n) → Right K B w m n → answered p node (plain K B m n) r
+
 -- the node y, as `mk` is given it, joined at the place r .h
 pub record Joins (K : Kind) (y : List ℕ) (s : Arena) (m m′ w w′ : List ℕ) (r : Arena) : Type 0 where
-  pub place-small : r .h < 4096
   pub joins : (B : Store) (h : ℕ) → Ready K (mk K y) B s m w → h ≡ handle-of K (sign y) (r .h)
       → Runs K (mk K y) B s m m′ w w′ (arena (r .ok) (r .n) h)
 
 -- the same for every node y, as `mk` is given it, that is stored as x
-abbrev pub JoinsAs : List ℕ → Arena → List ℕ → List ℕ → List ℕ → List ℕ → Arena → Type 0
-JoinsAs x s m m′ w w′ r = (K : Kind) (y : List ℕ) → length x ≡ arity K → x ≡ stored K y → Joins K y s m m′ w w′ r
+pub record JoinsAs (x : List ℕ) (s : Arena) (m m′ w w′ : List ℕ) (r : Arena) : Type 0 where
+  pub small : r .h < 4096
+  pub node : (K : Kind) (y : List ℕ) → length x ≡ arity K → x ≡ stored K y → Joins K y s m m′ w w′ r
 
 -- a look: x is what the children of h are, where it has a node
 pub record Looks (K : Kind) (m : List ℕ) (h : ℕ) (x : List ℕ) : Type 0 where
@@ -82,6 +95,7 @@ pub record Tells (K : Kind) (m w : List ℕ) (l h : ℕ) (r : Properties) : Type
 -- what the memo w holds on an operation
 pub record Recalls (w : List ℕ) (op l a b : ℕ) (r : Found) : Type 0 where
   pub recalls : (S : Store) (h : ℕ) → Remembers w S → r ≡ Answer h → run (memo-program op l a b) S ≡ ran S h
+  pub else : (x y : ℕ) → r ≡ Operands x y → (x ≡ a) × (y ≡ b)
 
 -- each entry of the memo is the old one or that of the operation's answer; the rest is as it was
 pub record Keeps (w w′ : List ℕ) (op l a b h : ℕ) : Type 0 where

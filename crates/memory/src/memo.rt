@@ -15,7 +15,7 @@ fn slot(entries: usize, tag: u32, a: u32, b: u32) -> usize
 
 // What the memo holds on an operation of this level on a and b.
 pub fn recall(work: &[u32], op: u32, level: u8, a: u32, b: u32) -> crate::Found
-    requires { ⌜ (0 < op) × (op < 4096) ⌝ }
+    requires { ⌜ (0 < op) × (op < 16777216) ⌝ }
     ensures { λ r. ⌜ Recalls (now (work .entry)) op level a b r ⌝ }
 {
     let entries = crate::index::memo_size(work.len()) / 4;
@@ -41,7 +41,7 @@ pub fn recall(work: &[u32], op: u32, level: u8, a: u32, b: u32) -> crate::Found
 
 // Keeps what an operation gave.
 pub fn keep(work: &mut [u32], op: u32, level: u8, a: u32, b: u32, h: u32)
-    requires { ⌜ op < 4096 ⌝ }
+    requires { ⌜ op < 16777216 ⌝ }
     ensures { λ _. ⌜ Keeps (now (work .entry)) (now (work .exit)) op level a b h ⌝ }
 {
     let entries = crate::index::memo_size(work.len()) / 4;
@@ -68,7 +68,7 @@ pub fn remember(
     a: u32,
     b: u32,
 ) -> crate::Arena
-    requires { ⌜ op < 4096 ⌝ }
+    requires { ⌜ op < 16777216 ⌝ }
     ensures { λ q. ⌜ (q ≡ r) × Remembered r op level a b (now (work .entry)) (now (work .exit)) ⌝ }
 {
     if r.ok {

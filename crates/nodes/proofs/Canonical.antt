@@ -24,16 +24,23 @@ get-inj {S = S} K a b F A B e =
     let i : index K a ≡ index K b = F .distinct K (index K a) (index K b) (A .there) (B .there) (r .0) in
     sym (handle-index K a (A .big)) ∙ handle-eq K (a % 2) (b % 2) (index K a) (r .1) bs bt ∙ ap (handle-of K (b % 2)) i ∙ handle-index K b (B .big)
 
-pub get-length : {k : ℕ} {S : Store} {P : ℕ → Type 0} (K : Kind) (h : ℕ) → WellFormed k S → Inner K S P h → length (get K S h) ≡ arity K
+-- nodes as long as their kind asks
+pub record Sized (K : Kind) (S : Store) : Type 0 where
+  pub each : (i : ℕ) → i < length (nodes K S) → length (getD (nodes K S) i []) ≡ arity K
+
+pub formed-sized : {k : ℕ} {S : Store} (K : Kind) → WellFormed k S → Sized K S
+formed-sized K F = record { each = λ i h. F .fits K i h .sized }
+
+pub get-length : {S : Store} {P : ℕ → Type 0} (K : Kind) (h : ℕ) → Sized K S → Inner K S P h → length (get K S h) ≡ arity K
 unfolding get
-get-length {S = S} K h F A = length-with-sign K (h % 2) (getD (nodes K S) (index K h) []) ∙ F .fits K (index K h) (A .there) .sized
+get-length {S} K h Z A = length-with-sign K (h % 2) (getD (nodes K S) (index K h) []) ∙ Z .each (index K h) (A .there)
 
 pub canonical : {k : ℕ} {S : Store} (K : Kind) (l a b : ℕ) → WellFormed k S → Held K S l a → Held K S l b
     → ((ds : List ℕ) → Digits K l ds → walk K S a ds ≡ walk K S b ds) → a ≡ b
 canonical K zero a b F A B e = e [] none
 canonical {S = S} K (suc l) a b F A B e =
-    get-inj K a b F A B (ext-getD 0 (get K S a) (get K S b) (get-length K a F A ∙ sym (get-length K b F B))
-    (λ d h. let i : d < arity K = subst (λ n. d < n) (get-length K a F A) h in
+    get-inj K a b F A B (ext-getD 0 (get K S a) (get K S b) (get-length K a (formed-sized K F) A ∙ sym (get-length K b (formed-sized K F) B))
+    (λ d h. let i : d < arity K = subst (λ n. d < n) (get-length K a (formed-sized K F) A) h in
     canonical K l (child K S a d) (child K S b d) F (A .below d i) (B .below d i) (λ ds D. e (d ∷ ds) (more d i D))))
 
 -- WALKS END AT 0 OR 1

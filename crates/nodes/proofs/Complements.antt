@@ -7,7 +7,7 @@ use lib.ListN.{length, getD}
 use Rattle.nodes.specs.Packets.{Digits, none, more, walk}
 use Rattle.nodes.specs.Store.{Kind, set, rel, arity, Store, signed, index, with-sign, get, child}
 use Rattle.nodes.specs.WellFormed.{Held, WellFormed}
-use Rattle.nodes.proofs.Canonical.{get-length}
+use Rattle.nodes.proofs.Canonical.{Sized, formed-sized, get-length}
 use Rattle.nodes.proofs.Signs.{with-sign-twice, getD-map, with-sign-zero}
 
 signed-get : (S : Store) (s h : ℕ) → 2 ≤ h → get set S (signed s h) ≡ map (signed s) (get set S h)
@@ -22,10 +22,10 @@ signed-get S (suc s) h b =
     go zero q x e c = rw (e, with-sign-zero) refl
     go (suc p) q x e c = let z : q ≡ 0 = omega arith in rw (z, with-sign-zero) (sym (with-sign-twice set 1 x))
 
-pub signed-held : {k : ℕ} {S : Store} → WellFormed k S → (l s h : ℕ) → Held set S l h → Held set S l (signed s h)
+pub signed-held : {S : Store} → Sized set S → (l s h : ℕ) → Held set S l h → Held set S l (signed s h)
 signed-held F zero zero h A = A
 signed-held F zero (suc s) h A = omega arith
-signed-held {S = S} F (suc l) s h A = record {
+signed-held {S} F (suc l) s h A = record {
   big = big s (A .big);
   there = rw (same s (A .big)) (A .there);
   below = λ d i. rw (signed-get S s h (A .big), getD-map (signed s) (get set S h) d (rw (get-length set h F A) i))
@@ -40,7 +40,7 @@ signed-held {S = S} F (suc l) s h A = record {
     same zero b = refl
     same (suc s) b = omega arith
 
-pub with-sign-held : {k : ℕ} {S : Store} (l : ℕ) (K : Kind) (s : ℕ) (x : List ℕ) → WellFormed k S → length x ≡ arity K
+pub with-sign-held : {S : Store} (l : ℕ) (K : Kind) (s : ℕ) (x : List ℕ) → Sized K S → length x ≡ arity K
     → ((d : ℕ) → d < arity K → Held K S l (getD x d 0))
     → (d : ℕ) → d < arity K → Held K S l (getD (with-sign K s x) d 0)
 with-sign-held l rel s x F n H d i = H d i
@@ -50,5 +50,5 @@ with-sign-held l set s x F n H d i = rw (getD-map (signed s) x d (rw n i)) (sign
 pub signed-walk : {k : ℕ} {S : Store} {l : ℕ} {ds : List ℕ} (h : ℕ) → WellFormed k S → Held set S l h → Digits set l ds
     → walk set S (signed 1 h) ds ≡ 1 - walk set S h ds
 signed-walk h F A none = omega arith
-signed-walk {S = S} h F A (more d i D) = rw (signed-get S 1 h (A .big), getD-map (signed 1) (get set S h) d (rw (get-length set h F A) i))
+signed-walk {S = S} h F A (more d i D) = rw (signed-get S 1 h (A .big), getD-map (signed 1) (get set S h) d (rw (get-length set h (formed-sized set F) A) i))
     (signed-walk (child set S h d) F (A .below d i) D)

@@ -10,15 +10,15 @@ use lib.Dec.{ltb, T, ltb→lt}
 use Rattle.nodes.specs.Programs.{agrees}
 use Rattle.nodes.specs.Store.{Kind, set, rel, arity, Store, nodes, index, get, child}
 use Rattle.nodes.specs.WellFormed.{Held, WellFormed, is-held, level-of}
-use Rattle.nodes.proofs.Canonical.{canonical}
+use Rattle.nodes.proofs.Canonical.{formed-sized, canonical}
 use Rattle.nodes.proofs.Complements.{with-sign-held}
 use Rattle.nodes.proofs.Tests.{agrees-walk}
 
-arity-pos : (K : Kind) → 0 < arity K
+pub arity-pos : (K : Kind) → 0 < arity K
 arity-pos set = omega arith
 arity-pos rel = omega arith
 
-small : (h : ℕ) → ((ltb h 2 ≡ true) × (h < 2)) ⊎ ((ltb h 2 ≡ false) × (2 ≤ h))
+pub small : (h : ℕ) → ((ltb h 2 ≡ true) × (h < 2)) ⊎ ((ltb h 2 ≡ false) × (2 ≤ h))
 small zero = inl (refl, omega arith)
 small (suc zero) = inl (refl, omega arith)
 small (suc (suc h)) = inr (go (ltb (suc (suc h)) 2) refl, omega arith)
@@ -54,7 +54,7 @@ held-at {S = S} K h F t = elim (small h) [
         record {
           big = b .1;
           there = i;
-          below = with-sign-held (f .level) K (h % 2) (getD (nodes K S) (index K h) []) F (f .sized)
+          below = with-sign-held (f .level) K (h % 2) (getD (nodes K S) (index K h) []) (formed-sized K F) (f .sized)
               (f .below);
         },
       ))

@@ -14,6 +14,7 @@ use Rattle.nodes.specs.Store.{Kind, set, rel, arity, Nodes, Store, nodes
 use Rattle.nodes.specs.Store.{sign, stored, mk-store, mk-handle}
 use Rattle.nodes.specs.WellFormed.{Held, Even, Fits, Distinct, WellFormed, Extends}
 use Rattle.nodes.proofs.Bools.{and-T, both-T}
+use Rattle.nodes.proofs.Canonical.{formed-sized}
 use Rattle.nodes.proofs.Complements.{with-sign-held}
 use Rattle.nodes.proofs.Extends.{append-nil, ext-node, ext-held, ext-walk, ext-fits}
 use Rattle.nodes.proofs.Signs.{index-handle, with-sign-handle, length-with-sign}
@@ -147,8 +148,8 @@ module _ {k l : ℕ} {S : Store} (K : Kind) (x : List ℕ) (F : WellFormed k S) 
     sized = length-with-sign K (sign x) x ∙ n;
     level = l;
     under = b;
-    below = λ d i. ext-held E K l _ (with-sign-held l K (sign x) x F n H d i);
-    earlier = λ d i. held-early K S l _ (with-sign-held l K (sign x) x F n H d i);
+    below = λ d i. ext-held E K l _ (with-sign-held l K (sign x) x (formed-sized K F) n H d i);
+    earlier = λ d i. held-early K S l _ (with-sign-held l K (sign x) x (formed-sized K F) n H d i);
     even = stored-even K x;
   }
 

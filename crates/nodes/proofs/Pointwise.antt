@@ -15,7 +15,7 @@ use Rattle.nodes.specs.Recursion.{each2}
 use Rattle.nodes.specs.Store.{Kind, set, rel, arity, Store, signed, get, child}
 use Rattle.nodes.specs.WellFormed.{WellFormed}
 use Rattle.nodes.proofs.Bools.{not-bit}
-use Rattle.nodes.proofs.Canonical.{walk-bit}
+use Rattle.nodes.proofs.Canonical.{formed-sized, walk-bit}
 use Rattle.nodes.proofs.Complements.{signed-held, signed-walk}
 use Rattle.nodes.proofs.Constants.{zero-does, full-does}
 use Rattle.nodes.proofs.Recursion.{Sound1, op1-does, Sound2, op2-does}
@@ -24,7 +24,7 @@ use Rattle.nodes.proofs.Tests.{den-empty, den-full, den-case, den-same,
 
 pub den-not : {k l : ℕ} {φ : Sem} {S : Store} {a : ℕ} → WellFormed k S → Den set l φ S a → Den set l (λ ds. ¬ φ ds) S (signed 1 a)
 den-not {l = l} {S = S} {a = a} F A = record {
-  held = signed-held F l 1 a (A .held);
+  held = signed-held (formed-sized set F) l 1 a (A .held);
   means = λ ds D. not-bit (walk set S a ds) (walk set S (signed 1 a) ds) (walk-bit S a (A .held) D) (signed-walk a F (A .held) D) (A .means ds D);
 }
 

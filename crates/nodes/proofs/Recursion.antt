@@ -1,8 +1,9 @@
 -- Operations by recursion on the level, once: where the shortcuts answer right and the children's results make the right node, the operation is right.
 -- I indexes what the operands mean, Pre says that they do, Post what the result means
-use Prim.Native.Nat.{ℕ, zero, suc, _<_, _≤_}
+use mathlib.Core.Path.{_≡_, refl, ap}
+use Prim.Native.Nat.{ℕ, zero, suc, _-_, _<_, _≤_}
 use native.Mathlib.Omega.{arith}
-use Rattle.nodes.specs.Programs.{Prog}
+use Rattle.nodes.specs.Programs.{Prog, panic, look}
 use Rattle.nodes.specs.Recursion.{Op1, node1, op1, Op2, node2, op2}
 use Rattle.nodes.specs.Store.{Store, get}
 use Rattle.nodes.specs.WellFormed.{Held, WellFormed}
@@ -47,3 +48,26 @@ module _ {k : ℕ} {O : Op2} {I : Type 1} {Pre : ℕ → I → Store → ℕ →
   pub op2-does : (l : ℕ) (i : I) (S : Store) (a b : ℕ) → WellFormed k S → l ≤ k → Pre l i S a b → Does k S (op2 O l a b) (Post l i)
   unfolding op2
   op2-does l i S a b F u A = sound .short l i S a b (node2 O l) F u A (λ p j a b A. node2-does l j S a b p F u A)
+
+-- OPENED one step: at level 0 nothing is left; above it the children's operation is the operation one level down
+pub node1-zero : (O : Op1) (l a : ℕ) → l ≡ 0 → node1 O l a ≡ panic
+unfolding node1
+node1-zero O zero a e = refl
+node1-zero O (suc l) a e = absurd (let z : ⊥ = omega arith in z)
+
+pub node1-open : (O : Op1) (l a : ℕ) → (l ≡ 0 → ⊥) → node1 O l a ≡ look (O .kind) a (λ x. O .kids (l - 1) (op1 O (l - 1)) x)
+unfolding node1 op1
+node1-open O zero a h = absurd (h refl)
+node1-open O (suc l) a h = let e : l ≡ suc l - 1 = omega arith in ap (λ n. look (O .kind) a (λ x. O .kids n (λ a. O .short n a (node1 O n a)) x)) e
+
+pub node2-zero : (O : Op2) (l a b : ℕ) → l ≡ 0 → node2 O l a b ≡ panic
+unfolding node2
+node2-zero O zero a b e = refl
+node2-zero O (suc l) a b e = absurd (let z : ⊥ = omega arith in z)
+
+pub node2-open : (O : Op2) (l a b : ℕ) → (l ≡ 0 → ⊥)
+    → node2 O l a b ≡ look (O .first) a (λ x. look (O .second) b (λ y. O .kids (l - 1) (op2 O (l - 1)) x y))
+unfolding node2 op2
+node2-open O zero a b h = absurd (h refl)
+node2-open O (suc l) a b h = let e : l ≡ suc l - 1 = omega arith in
+    ap (λ n. look (O .first) a (λ x. look (O .second) b (λ y. O .kids n (λ a b. O .short n a b (node2 O n)) x y))) e

@@ -28,7 +28,7 @@ all-below-T zero f t d i = absurd (omega arith)
 all-below-T (suc n) f t zero i = and-T (f 0) _ t .0
 all-below-T (suc n) f t (suc d) i = all-below-T n (λ d. f (suc d)) (and-T (f 0) _ t .1) d (omega arith)
 
-all-below-all : (n : ℕ) (f : ℕ → Bool) → ((d : ℕ) → d < n → T (f d)) → T (all-below n f)
+pub all-below-all : (n : ℕ) (f : ℕ → Bool) → ((d : ℕ) → d < n → T (f d)) → T (all-below n f)
 all-below-all zero f h = tt
 all-below-all (suc n) f h = both-T (f 0) _ (h 0 (omega arith)) (all-below-all n (λ d. f (suc d)) (λ d i. h (suc d) (omega arith)))
 

@@ -49,18 +49,19 @@ abbrev pub on-opposites : Kind → ℕ → ℕ → Prog → Prog → Prog
 on-opposites set a b p q = ask (same a (signed 1 b)) p q
 on-opposites rel a b p q = q
 
+abbrev pub union-tests : Kind → ℕ → ℕ → ℕ → (ℕ → ℕ → Prog) → Prog
+union-tests K l a b node =
+    ask (has isEmpty K l a) (ret b)
+    (ask (has isUniversal K l b) (ret b)
+    (ask (has isEmpty K l b) (ret a)
+    (ask (has isUniversal K l a) (ret a)
+    (ask (less b a) (node b a) (node a b)))))
+
 abbrev pub union-op : Kind → Op2
 union-op K = record {
   first = K;
   second = K;
-  short = λ l a b node.
-      ask (same a b) (ret a)
-      (on-opposites K a b (one-at-depth K l)
-      (ask (has isEmpty K l a) (ret b)
-      (ask (has isUniversal K l b) (ret b)
-      (ask (has isEmpty K l b) (ret a)
-      (ask (has isUniversal K l a) (ret a)
-      (ask (less b a) (node b a) (node a b)))))));
+  short = λ l a b node. ask (same a b) (ret a) (on-opposites K a b (one-at-depth K l) (union-tests K l a b node));
   kids = λ l. each2 K;
 }
 
@@ -87,17 +88,19 @@ intersect set l a b = union set l (signed 1 a) (signed 1 b) >>= λ r. ret (signe
 intersect rel l a b = op2 intersect-op l a b
 
 -- sp.rs and spp.rs, `xor`
+abbrev pub xor-tests : Kind → ℕ → ℕ → ℕ → (ℕ → ℕ → Prog) → Prog
+xor-tests K l a b node =
+    ask (has isEmpty K l a) (ret b)
+    (ask (has isEmpty K l b) (ret a)
+    (ask (has isUniversal K l a) (complement K l b)
+    (ask (has isUniversal K l b) (complement K l a)
+    (ask (less b a) (node b a) (node a b)))))
+
 abbrev pub xor-op : Kind → Op2
 xor-op K = record {
   first = K;
   second = K;
-  short = λ l a b node.
-      ask (same a b) (zero-at-depth K l)
-      (ask (has isEmpty K l a) (ret b)
-      (ask (has isEmpty K l b) (ret a)
-      (ask (has isUniversal K l a) (complement K l b)
-      (ask (has isUniversal K l b) (complement K l a)
-      (ask (less b a) (node b a) (node a b))))));
+  short = λ l a b node. ask (same a b) (zero-at-depth K l) (xor-tests K l a b node);
   kids = λ l. each2 K;
 }
 

@@ -6,20 +6,18 @@ use Rattle.nodes.specs.Programs.{isEmpty, isUniversal, same, less, has, 
 use Rattle.nodes.specs.Recursion.{Op2, op2, x0, x1, or-else}
 
 -- sp.rs, `intersects`: 1 for yes, 0 for no
+abbrev pub intersects-tests : ℕ → ℕ → ℕ → (ℕ → ℕ → Prog) → Prog
+intersects-tests l a b node =
+    ask (same a (signed 1 b)) (ret 0)
+    (ask (has isEmpty set l a) (ret 0)
+    (ask (has isEmpty set l b) (ret 0)
+    (ask (same a b) (ret 1)
+    (ask (has isUniversal set l a) (ret 1)
+    (ask (has isUniversal set l b) (ret 1)
+    (ask (less b a) (node b a) (node a b)))))))
+
 abbrev pub intersects-op : Op2
-intersects-op = record {
-  first = set;
-  second = set;
-  short = λ l a b node.
-      ask (same a (signed 1 b)) (ret 0)
-      (ask (has isEmpty set l a) (ret 0)
-      (ask (has isEmpty set l b) (ret 0)
-      (ask (same a b) (ret 1)
-      (ask (has isUniversal set l a) (ret 1)
-      (ask (has isUniversal set l b) (ret 1)
-      (ask (less b a) (node b a) (node a b)))))));
-  kids = λ l f x y. or-else (f (x0 x) (x0 y)) (f (x1 x) (x1 y));
-}
+intersects-op = record { first = set; second = set; short = intersects-tests; kids = λ l f x y. or-else (f (x0 x) (x0 y)) (f (x1 x) (x1 y)) }
 
 unfoldable pub intersects : ℕ → ℕ → ℕ → Prog
 intersects l a b = op2 intersects-op l a b

@@ -14,11 +14,14 @@ use Rattle.memory.proofs.place.join.Tie as tie
 returns : tie.Need-returns
 returns c =
     let c6 = c .before .before .before .before .before .before in
-    λ K y z e. joins-stuck y (c6 .args .x .now) (not-true _ (c .if1 .taken))
+    record { small = omega arith; node = λ K y z e. joins-stuck y (c6 .args .x .now) (not-true _ (c .if1 .taken)) }
 
 returns-2 : tie.Need-returns-2
-returns-2 c = λ K y z e. joins-never y (c .before .before .before .before .before .before .before .args .x .now) z
-    (omega (arith, c .before .before .before .places-of .ensures))
+returns-2 c = record {
+  small = omega arith;
+  node = λ K y z e. joins-never y (c .before .before .before .before .before .before .before .args .x .now) z
+      (omega (arith, c .before .before .before .places-of .ensures));
+}
 
 find-requires : tie.Need-find-requires
 find-requires c κs =
@@ -32,18 +35,23 @@ returns-3 c =
     let c5 = c .before .before .before .before .before in
     let c7 = c5 .before .before in
     let c11 = c7 .before .before .before .before in
-    λ K y z e. joins-found y (c11 .args .x .now)
-    (not-false _ (c5 .if1 .left)) z e (c .before .find .result) (c .before .find .ensures) (c .if3 .taken)
-    (omega (arith, c7 .places-of .ensures))
+    record {
+      small = omega (arith, c7 .places-of .ensures);
+      node = λ K y z e. joins-found y (c11 .args .x .now)
+          (not-false _ (c5 .if1 .left)) z e (c .before .find .result) (c .before .find .ensures) (c .if3 .taken);
+    }
 
 returns-4 : tie.Need-returns-4
 returns-4 c =
     let c6 = c .before .before .before .before .before .before in
     let c8 = c6 .before .before in
     let c12 = c8 .before .before .before .before in
-    λ K y z e. joins-full y (c12 .args .x .now)
-    (not-false _ (c6 .if1 .left)) z e (c .before .before .find .result) (c .before .before .find .ensures)
-    (λ h. omega arith) (omega (arith, c8 .places-of .ensures))
+    record {
+      small = omega arith;
+      node = λ K y z e. joins-full y (c12 .args .x .now)
+          (not-false _ (c6 .if1 .left)) z e (c .before .before .find .result) (c .before .before .find .ensures)
+          (λ h. omega arith) (omega (arith, c8 .places-of .ensures));
+    }
 
 put-requires : tie.Need-put-requires
 put-requires c κs =
@@ -67,8 +75,12 @@ returns-5 c =
     let c19 = c15 .before .before .before .before in
     let c21 = c19 .before .before in
     let c25 = c21 .before .before .before .before in
-    λ K y z e. joins-new y (c25 .args .x .now) (not-false _ (c19 .if1 .left)) z e (c15 .find .result) (c15 .find .ensures) _ _ _ (λ h. omega arith)
-    (omega (arith, c21 .places-of .ensures)) (c11 .put .ensures) (c7 .note .ensures) (c .before .before .enter .ensures)
+    record {
+      small = omega (arith, c21 .places-of .ensures);
+      node = λ K y z e. joins-new y (c25 .args .x .now) (not-false _ (c19 .if1 .left)) z e
+          (c15 .find .result) (c15 .find .ensures) _ _ _ (λ h. omega arith)
+          (omega (arith, c21 .places-of .ensures)) (c11 .put .ensures) (c7 .note .ensures) (c .before .before .enter .ensures);
+    }
 
 pub join-spec : {M : Type 1} → statement M
 join-spec =

@@ -1,0 +1,116 @@
+-- `xor` runs its program; the measure is the level.
+use Prim.Native.Nat.{ℕ, _<_}
+use native.Mathlib.Omega.{arith}
+use borrow.Author.Needs.{needs}
+use borrow.Author.Tests.{eq-eqb, not-true, not-false}
+use borrow.Fn.Kinds.{In}
+use borrow.Fn.PlainCycle.{Measures, is, falls, and}
+use Rattle.nodes.specs.Store.{set}
+use Rattle.nodes.specs.Operations.{xor-op, xor as xor-program}
+use Rattle.nodes.proofs.Recursion.{node2-zero}
+use Rattle.memory.proofs.Steps.{begin, by, yes, same-says, performs-stuck, given, called, impossible, further, answer-stands, node-stands}
+use Rattle.sets.proofs.Opened.{xor-is, xor-memo, xor-tested}
+use Rattle.sets.proofs.Pairs.{pair-returns}
+use Rattle.sets.proofs.xor.Reads as xor
+use Rattle.sets.proofs.xor.Kinds as xor-kinds
+use Rattle.sets.proofs.+xor.Lts-xor as xor-lts
+use Rattle.memory.proofs.memo.remember.Reads as remember-reads
+use Rattle.memory.proofs.place.give.Reads as give-reads
+use Rattle.sets.proofs.get.Reads as get-reads
+use Rattle.sets.proofs.mk.Reads as mk-reads
+use Rattle.sets.proofs.xor_tests.Reads as xor-tests-reads
+use Rattle.sets.proofs.zero_at_depth.Reads as zero-at-depth-reads
+use Rattle.sets.proofs.+xor.{statement}
+use Rattle.sets.proofs.+xor.Tie.{close}
+
+abbrev μ-xor : Measures 2 xor-kinds.ps ℕ
+μ-xor κs a = a .1 .1 .1 .0
+
+abbrev xor-at : ℕ → In 2 xor-kinds.ps
+xor-at t = and 2 xor-kinds.ps (is 2 xor-kinds.ps μ-xor t) xor.Pre
+
+abbrev xor-below : ℕ → In 2 xor-kinds.ps
+xor-below t = and 2 xor-kinds.ps (falls 2 xor-kinds.ps _<_ μ-xor t) xor.Pre
+
+abbrev calls : ℕ → xor-lts.Claims
+calls t = (
+  zero-at-depth-reads.Asked,
+  zero-at-depth-reads.Learnt,
+  xor-tests-reads.Asked,
+  xor-tests-reads.Learnt,
+  give-reads.Asked,
+  give-reads.Learnt,
+  get-reads.Asked,
+  get-reads.Learnt,
+  xor-below t,
+  xor.Post,
+  mk-reads.Asked,
+  mk-reads.Learnt,
+  remember-reads.Asked,
+  remember-reads.Learnt,
+)
+
+pub +xor-spec : {M : Type 1} → statement M
+unfolding xor-program
++xor-spec = close μ-xor
+    (λ t. xor-lts.spec (calls t) (xor-at t) xor.Post
+    (λ c. performs-stuck (not-true _ (c .if1 .taken)))
+    (λ c κs. search needs)
+    (λ c. search needs)
+    (λ c. search needs)
+    (λ c.
+    let c4 = c .before .before .before .before in
+    let c7 = c4 .before .before .before in
+    let c8 = c7 .before in
+    called (not-false _ (c8 .if1 .left)) (yes (by begin (xor-is _ _ _)) (same-says (eq-eqb _ _ (c7 .if2 .taken)))) (c4 .zero-at-depth .ensures))
+    (λ c κs. search needs)
+    (λ c. search needs)
+    (λ c κs. search needs)
+    (λ c. search needs)
+    (λ c. search needs)
+    (λ c. search needs)
+    (λ c.
+    let c4 = c .before .before .before .before in
+    let c7 = c4 .before .before .before in
+    let c8 = c7 .before in
+    impossible (not-false _ (c8 .if1 .left)) (by (further (xor-tested _ _ _ (c7 .if2 .left))
+    (node-stands (c4 .xor-tests .ensures) (c .before .before .found2 .given .1))) (node2-zero (xor-op set) _ _ _ (c .if3 .taken))))
+    (λ c κs. search needs)
+    (λ c κs. search needs)
+    (λ c. search needs)
+    (λ c κs.
+    let c6 = c .before .before .before .before .before .before in
+    let c18 = c6 .before .before .before .before .before .before .before .before .before .before .before .before in
+    (omega (arith, c18 .pre .0, c6 .if3 .left), tt))
+    (λ c. search needs)
+    (λ c κs.
+    let c13 = c .before .before .before .before .before .before .before .before .before .before .before .before .before in
+    let c25 = c13 .before .before .before .before .before .before .before .before .before .before .before .before in
+    (omega (arith, c25 .pre .0, c13 .if3 .left), tt))
+    (λ c κs. search needs)
+    (λ c κs. search needs)
+    (λ c. search needs)
+    (λ c. search needs)
+    (λ c.
+    let c4 = c .before .before .before .before in
+    let c7 = c4 .before .before .before in
+    let c8 = c7 .before in
+    given (not-false _ (c8 .if1 .left)) (further (xor-tested _ _ _ (c7 .if2 .left))
+    (answer-stands (c4 .xor-tests .ensures) (c .before .before .found .given .1))) (c .give .ensures))
+    (λ c. search needs)
+    (λ c. search needs)
+    (λ c.
+    let c8 = c .before .before .before .before .before .before .before .before in
+    let c15 = c8 .before .before .before .before .before .before .before in
+    let c22 = c15 .before .before .before .before .before .before .before in
+    let c25 = c22 .before .before .before in
+    let c27 = c25 .before .before in
+    let c29 = c27 .before .before in
+    let c31 = c29 .before .before in
+    let c33 = c31 .before .before in
+    let c36 = c33 .before .before .before in
+    let c37 = c36 .before in
+    let c41 = c37 .before .before .before .before in
+    pair-returns (xor-op set .short) 2 _ _ _ (not-false _ (c37 .if1 .left)) (omega (arith, c41 .fits .level .fits)) (c29 .if3 .left) (xor-memo _ _ _)
+    (further (xor-tested _ _ _ (c36 .if2 .left)) (node-stands (c33 .xor-tests .ensures) (c31 .found2 .given .1))) (c27 .get .ensures) (c25 .get2 .ensures)
+    (c22 .xor .ensures) (c15 .xor2 .ensures) (c8 .mk .ensures) (c .before .before .remember .ensures)))

@@ -1,0 +1,6 @@
+pub mod Branches
+pub mod Meets
+pub mod Nodes
+pub mod Opened
+pub mod Pairs
+pub mod Tested

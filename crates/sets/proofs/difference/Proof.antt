@@ -1,0 +1,24 @@
+-- `difference` is the complement of the union of the complement of a with b.
+use mathlib.Core.Path.{sym, ap}
+use borrow.Author.Needs.{needs}
+use Rattle.nodes.specs.Programs.{ret}
+use Rattle.memory.proofs.Steps.{performs-by, performs-then, performs-ret}
+use Rattle.sets.proofs.Opened.{difference-is}
+use Rattle.sets.proofs.difference.Statement.{statement}
+use Rattle.sets.proofs.difference.Tie as tie
+
+pub difference-spec : {M : Type 1} → statement M
+difference-spec =
+    tie.close
+    (tie.spec
+    (λ c κs. search needs)
+    (λ c κs. search needs)
+    (λ c κs. search needs)
+    (λ c κs. search needs)
+    (λ c. search needs)
+    (λ c. search needs)
+    (λ c.
+    let c6 = c .before .before .before .before .before .before in
+    let c7 = c6 .before in
+    performs-by (difference-is _ _ _ (c7 .other .ensures))
+    (performs-then (c6 .union .ensures) (performs-by (ap ret (sym (c .before .other2 .ensures))) (performs-ret _ (c .give .ensures))))))

@@ -1,0 +1,49 @@
+-- What the functions that judge nodes say: c is the child count of a kind, m the nodes, w the working memory, k the number of fields.
+use mathlib.Core.Path.{_≡_}
+use mathlib.Core.List.{List}
+use mathlib.Core.Bool.{Bool, true, false}
+use Prim.Native.Nat.{ℕ, _+_, _*_, _<_, _≤_}
+use lib.ListN.{length, getD}
+use Rattle.nodes.specs.Store.{Kind, arity, Store, handle-of}
+use Rattle.nodes.specs.WellFormed.{Held, Even, WellFormed}
+use Rattle.memory.specs.Rows.{row, places, plain}
+use Rattle.memory.specs.Working.{Right}
+
+-- the level of a held handle
+abbrev pub LevelIs : List ℕ → ℕ → ℕ → ℕ → ℕ → Type 0
+LevelIs m c k h r = (K : Kind) (B : Store) (n l : ℕ) → c ≡ arity K → n ≤ places c m → Held K (plain K B m n) l h → l ≤ k → r ≡ l
+
+-- child d of the node at place i stands earlier, at level l
+pub record ChildFits (K : Kind) (B : Store) (m : List ℕ) (i l d : ℕ) : Type 0 where
+  pub earlier : getD m (arity K * i + d) 0 < handle-of K 0 i
+  pub held : Held K (plain K B m i) l (getD m (arity K * i + d) 0)
+
+-- the node at place i may follow those before it
+pub record NodeFits (k : ℕ) (K : Kind) (B : Store) (m : List ℕ) (i : ℕ) : Type 0 where
+  pub level : ℕ
+  pub under : level < k
+  pub below : (d : ℕ) → d < arity K → ChildFits K B m i level d
+  pub even : Even K (row (arity K) m i)
+  pub new : (j : ℕ) → j < i → row (arity K) m j ≡ row (arity K) m i → ⊥
+
+-- r says whether P
+pub record Tests (r : Bool) (P : Type 0) : Type 0 where
+  pub so : r ≡ true → P
+  pub not : r ≡ false → P → ⊥
+
+abbrev pub ChildrenFit : List ℕ → ℕ → ℕ → ℕ → ℕ → Bool → Type 0
+ChildrenFit m c k i l r = (K : Kind) (B : Store) → c ≡ arity K → i ≤ places c m → l ≤ k → WellFormed k (plain K B m i)
+    → Tests r ((d : ℕ) → d < arity K → ChildFits K B m i l d)
+
+abbrev pub FitsNext : List ℕ → List ℕ → ℕ → ℕ → ℕ → Bool → Type 0
+FitsNext m w c k i r = (K : Kind) (B : Store) → c ≡ arity K → i < places c m → Right K B w m i → WellFormed k (plain K B m i) → Tests r (NodeFits k K B m i)
+
+-- before the first node: the working memory is right for none of the kind, and the other kind is well formed
+pub record Start (k : ℕ) (K : Kind) (B : Store) (m w : List ℕ) : Type 0 where
+  pub right : Right K B w m 0
+  pub formed : WellFormed k (plain K B m 0)
+
+pub record Judged (c n k : ℕ) (m w w′ : List ℕ) (r : Bool) : Type 0 where
+  pub right : (K : Kind) (B : Store) → c ≡ arity K → n ≤ places c m → Start k K B m w → r ≡ true → Right K B w′ m n
+  pub verdict : (K : Kind) (B : Store) → c ≡ arity K → n ≤ places c m → Start k K B m w → Tests r (WellFormed k (plain K B m n))
+  pub wide : length w′ ≡ length w

@@ -1,0 +1,4 @@
+pub mod Memory
+pub mod Valid
+pub mod Refusals
+pub mod Judging
