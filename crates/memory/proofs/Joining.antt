@@ -8,7 +8,7 @@ use Prim.Native.Nat.{ℕ, _+_, _*_, _%_, _<_, _≤_}
 use native.Mathlib.Omega.{arith}
 use native.Mathlib.Decide.{decLt, ℕ-discrete}
 use lib.ListN.{List·getD-eq-default, length, getD, take, drop, length-append, length-set}
-use lib.Seq.{getD-set-same, getD-set-other, set-out, take-set-le, take-take, paste}
+use lib.Seq.{getD-set-same, getD-set-other, set-out, take-set-le, paste}
 use lib.Dec.{ltb, leb, T, lt→ltb}
 use borrow.Author.Tests.{le-leb, lt-leb}
 use Rattle.nodes.specs.Operations.{fields}
@@ -32,10 +32,9 @@ use Rattle.memory.specs.Rows.{row, rows, places, plain}
 use Rattle.memory.specs.Working.{memo-size, links-at, words-at, Indexed, properties-in, Has, Known, Words, Entry, Remembers, Right}
 use Rattle.memory.proofs.Chains.{indexed-agree}
 use Rattle.memory.proofs.Known.{known-nothing}
-use Rattle.memory.proofs.Remembering.{drop-at-same}
-use Rattle.memory.proofs.Rows.{place-fits, row-agree, plain-nodes, plain-length, plain-at, paste-long, paste-head, paste-rest, paste-row}
-use Rattle.memory.proofs.Rows.{rows-paste}
-use Rattle.memory.proofs.Steps.{writes-same, false≢true}
+use Rattle.memory.proofs.Parts.{words-same, entry-same}
+use Rattle.memory.proofs.Rows.{place-fits, plain-nodes, plain-length, plain-at, paste-long, paste-head, paste-rest, paste-row, rows-paste}
+use Rattle.memory.proofs.Steps.{writes-same, false≢true, ext-longer}
 
 module _ (x : List ℕ) (N : Nodes) where
   pub there : Distinct N → (i : ℕ) → i < length N → getD N i [] ≡ x → (having x N ≡ N) × (place x N ≡ i)
@@ -104,16 +103,6 @@ apart rel set l i n a b e = absurd (omega arith)
 after-index : (K : Kind) (l n i : ℕ) → i < 8192 → memo-size l + i < words-at K l + n
 after-index set l n i h = omega arith
 after-index rel l n i h = omega arith
-
--- a word's place behind memo and index
-spare : Kind → ℕ
-spare rel = 0
-spare set = 4096
-
-word-place : (J : Kind) (l i : ℕ) → words-at J l + i ≡ memo-size l + 8192 + (spare J + i)
-unfolding spare
-word-place set l i = omega arith
-word-place rel l i = omega arith
 
 module _ (K : Kind) (x : List ℕ) (n : ℕ) (w w₁ : List ℕ) (N : Noted K x n w w₁) where
   noted-long : length w₁ ≡ length w
@@ -234,35 +223,11 @@ module _ {K : Kind} {B : Store} {s : Arena} {m w : List ℕ} (y x : List ℕ) (o
       put-formed = let F = R .live ok .work in subst (WellFormed _) (sym put-store)
           (mk-formed {l = new-kids .level} K y (formed-more (omega arith) (F .formed)) (omega arith) (new-kids .sized) (new-kids .held))
 
-      -- a node of the store with x, and none before, is x
-      only-new : (J : Kind) (i : ℕ) → i < length (nodes J (plain K B m′ (s .n + 1))) → ¬ (i < length (nodes J (plain K B m (s .n)))) → (J ≡ K) × (i ≡ s .n)
-      only-new J i a o = go K J
-          (subst (λ k. i < k) (count K J m′ (s .n + 1)) a) (λ z. o (subst (λ k. i < k) (sym (count K J m (s .n))) z))
-        where
-          pick-kind : Kind → Kind → ℕ → ℕ → ℕ
-          pick-kind set set n k = n
-          pick-kind rel rel n k = n
-          pick-kind set rel n k = k
-          pick-kind rel set n k = k
-
-          count : (K J : Kind) (m : List ℕ) (n : ℕ) → length (nodes J (plain K B m n)) ≡ pick-kind K J n (length (nodes J B))
-          count set set m n = plain-length set B m n
-          count rel rel m n = plain-length rel B m n
-          count set rel m n = refl
-          count rel set m n = refl
-
-          go : (K J : Kind) → i < pick-kind K J (s .n + 1) (length (nodes J B)) → ¬ (i < pick-kind K J (s .n) (length (nodes J B))) → (J ≡ K) × (i ≡ s .n)
-          go set set a o = (refl, omega arith)
-          go rel rel a o = (refl, omega arith)
-          go set rel a o = absurd (o a)
-          go rel set a o = absurd (o a)
-
       -- the words as they were say nothing wrong with the node there
       words-before : Words w (plain K B m′ (s .n + 1))
       words-before J i a b = let F = R .live ok .work in elim (decLt i (length (nodes J (plain K B m (s .n))))) [
         | yes o ↦ known-later J i _ (F .formed) put-extends o (F .words J i a o)
-        | no o ↦ (let q = only-new J i b o in
-            known-nothing _ (subst (λ J. getD w (words-at J (length w) + i) 0 ≡ 0) (sym (q .0)) (F .unset i (omega (arith, q .1)) a)))
+        | no o ↦ known-nothing _ (F .unset J i (omega arith) a)
       ]
 
       put-get : get K (plain K B m′ (s .n + 1)) (handle-of K 0 (s .n)) ≡ x
@@ -281,9 +246,7 @@ module _ {K : Kind} {B : Store} {s : Arena} {m w : List ℕ} (y x : List ℕ) (o
 
       -- each word but the new one is as it was
       word-entered : (J : Kind) (i : ℕ) → getD w₂ (words-at J (length w₂) + i) 0 ≡ getD w₁ (words-at J (length w₁) + i) 0
-      word-entered J i =
-          ap (λ k. getD w₂ (words-at J k + i) 0) (E .wide) ∙ ap (λ k. getD w₂ k 0) (word-place J (length w₁) i)
-          ∙ drop-at-same (memo-size (length w₁) + 8192) w₁ w₂ (E .words) (spare J + i) ∙ ap (λ k. getD w₁ k 0) (sym (word-place J (length w₁) i))
+      word-entered = words-same w₁ w₂ (E .wide) (E .words)
 
       word-other : (J : Kind) (i : ℕ) → ¬ ((J ≡ K) × (i ≡ s .n)) → i < 4096 → getD w₂ (words-at J (length w₂) + i) 0 ≡ getD w (words-at J (length w) + i) 0
       word-other J i o a = word-entered J i ∙ ap (λ k. getD w₁ (words-at J k + i) 0) long
@@ -331,11 +294,14 @@ module _ {K : Kind} {B : Store} {s : Arena} {m w : List ℕ} (y x : List ℕ) (o
           let g : 4 * j + 3 < memo-size (length w) = subst (λ k. 4 * j + 3 < memo-size k) (E .wide ∙ long) f in
           let t : take (memo-size (length w)) w₂ ≡ take (memo-size (length w)) w = subst (λ k. take (memo-size k) w₂ ≡ take (memo-size k) w₁) long (E .memo)
           ∙ noted-memo K x (s .n) w w₁ N in
-          let q : take (4 * (j + 1)) w₂ ≡ take (4 * (j + 1)) w
-          = sym (take-take (4 * (j + 1)) (memo-size (length w)) w₂ (omega arith)) ∙ ap (take (4 * (j + 1))) t
-          ∙ take-take (4 * (j + 1)) (memo-size (length w)) w (omega arith) in
-          entry-later (row 4 w₂ j) put-extends (subst (λ z. Entry z (plain K B m (s .n))) (sym (row-agree 4 (j + 1) w w₂ q j (omega arith)))
+          entry-later (row 4 w₂ j) put-extends (subst (λ z. Entry z (plain K B m (s .n))) (sym (entry-same w w₂ t j g))
           (R .live ok .work .memo j g))
+
+      past : (J : Kind) (i : ℕ) → length (nodes J (plain K B m′ (s .n + 1))) ≤ i → ¬ ((J ≡ K) × (i ≡ s .n))
+      past J i a z =
+          let e : length (nodes J (plain K B m′ (s .n + 1))) ≡ s .n + 1
+          = subst (λ J. length (nodes J (plain K B m′ (s .n + 1))) ≡ s .n + 1) (sym (z .0)) (plain-length K B m′ (s .n + 1)) in
+          omega (arith, e, z .1)
 
       right-after : Right K B w₂ m′ (s .n + 1)
       right-after = let F = R .live ok .work in record {
@@ -344,7 +310,7 @@ module _ {K : Kind} {B : Store} {s : Arena} {m w : List ℕ} (y x : List ℕ) (o
         memo = memo-after;
         index = E .index (noted-index K x (s .n) w w₁ N (indexed-agree (arity K) (s .n) m m′ w (sym put-head) (F .index)) (omega arith));
         words = words-after;
-        unset = λ i a b. word-other K i (λ z. omega (arith, z .1)) b ∙ F .unset i (omega arith) b;
+        unset = λ J i a b. word-other J i (past J i a) b ∙ F .unset J i (omega (arith, ext-longer J put-extends)) b;
       }
 
       pub join-new : (h : ℕ) → h ≡ handle-of K (sign y) (s .n) → Runs K (mk K y) B s m m′ w w₂ (arena true (s .n + 1) h)

@@ -1,5 +1,7 @@
 pub mod Rows
+pub mod Parts
 pub mod Chains
+pub mod Emptying
 pub mod Entries
 pub mod Known
 pub mod Children
@@ -8,3 +10,4 @@ pub mod Steps
 pub mod Remembering
 pub mod Joining
 pub mod Looking
+pub mod Starting

@@ -8,7 +8,6 @@ use Prim.Native.Nat.{ℕ, _+_, _*_, _/_, _%_, _<_, _≤_}
 use native.Mathlib.Omega.{arith}
 use native.Mathlib.Nat.{add-assoc}
 use lib.ListN.{length, getD, drop}
-use lib.Seq.{getD-drop}
 use Rattle.nodes.specs.Operations.{fields}
 use Rattle.nodes.specs.Programs.{Prog, ret, Ran, run}
 use Rattle.nodes.specs.Safety.{Safe, Settled}
@@ -21,10 +20,8 @@ use Rattle.memory.specs.Arena.{Ready, Performs, Left, answered, Answers,
 use Rattle.memory.specs.Memo.{memo-program}
 use Rattle.memory.specs.Rows.{row, places, plain}
 use Rattle.memory.specs.Working.{memo-size, links-at, words-at, Indexed, Known, tag, Entry, Remembers, Right}
+use Rattle.memory.proofs.Parts.{drop-at-same}
 use Rattle.memory.proofs.Steps.{was-ok, done-ran, Stands, turn}
-
-pub drop-at-same : (n : ℕ) (w w′ : List ℕ) → drop n w′ ≡ drop n w → (i : ℕ) → getD w′ (n + i) 0 ≡ getD w (n + i) 0
-drop-at-same n w w′ e i = sym (getD-drop n w′ i 0) ∙ ap (λ l. getD l i 0) e ∙ getD-drop n w i 0
 
 -- index and words stand behind the memo
 module _ (w w′ : List ℕ) (long : length w′ ≡ length w) (rest : drop (memo-size (length w)) w′ ≡ drop (memo-size (length w)) w) where
@@ -78,7 +75,7 @@ performs-remember {K} {p} {s} {r} {m} {m′} {w} {w₁} {w₂} op l a b e i d k 
         index = index-behind w₁ w₂ (g .wide) (g .rest) (f .work .index);
         words = λ J i x y. subst (λ v. Known J (plain K B m′ (r .n)) (handle-of J 0 i) v) (sym (word-behind w₁ w₂ (g .wide) (g .rest) J i))
             (f .work .words J i x y);
-        unset = λ i x y. word-behind w₁ w₂ (g .wide) (g .rest) K i ∙ f .work .unset i x y;
+        unset = λ J i x y. word-behind w₁ w₂ (g .wide) (g .rest) J i ∙ f .work .unset J i x y;
       };
     };
     writes = c .writes;

@@ -64,7 +64,7 @@ performs-stuck e = record {
 }
 
 -- TWO CALLS, one after the other
-ext-longer : (K : Kind) {S S′ : Store} → Extends S S′ → length (nodes K S) ≤ length (nodes K S′)
+pub ext-longer : (K : Kind) {S S′ : Store} → Extends S S′ → length (nodes K S) ≤ length (nodes K S′)
 ext-longer K {S} {S′} E = omega (arith, ap length (E .split K), length-append (nodes K S) (E .tail K))
 
 -- what did not fit does not fit later

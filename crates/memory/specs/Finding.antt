@@ -27,3 +27,10 @@ pub record Entered (node : ℕ → List ℕ) (n : ℕ) (w w′ : List ℕ) : Typ
   pub memo : take (memo-size (length w)) w′ ≡ take (memo-size (length w)) w
   pub words : drop (memo-size (length w) + 8192) w′ ≡ drop (memo-size (length w) + 8192) w
   pub wide : length w′ ≡ length w
+
+-- the index is empty, and nothing else changed
+pub record Emptied (w w′ : List ℕ) : Type 0 where
+  pub index : (node : ℕ → List ℕ) → Indexed node w′ 0
+  pub memo : take (memo-size (length w)) w′ ≡ take (memo-size (length w)) w
+  pub words : drop (memo-size (length w) + 8192) w′ ≡ drop (memo-size (length w) + 8192) w
+  pub wide : length w′ ≡ length w

@@ -5,7 +5,7 @@ ghost use Prim.Native.Nat.{ℕ, _+_, _*_, _%_, _<_, _≤_};
 ghost use lib.ListN.{length};
 ghost use Rattle.memory.specs.Rows.{row};
 ghost use Rattle.memory.specs.Working.{memo-size, bucket};
-ghost use Rattle.memory.specs.Finding.{Finds, Search, SearchAt, Entered};
+ghost use Rattle.memory.specs.Finding.{Finds, Search, SearchAt, Entered, Emptied};
 
 const PART: usize = 4096;
 
@@ -139,4 +139,15 @@ pub fn enter(nodes: &[u32], work: &mut [u32], c: usize, n: usize)
     let old = work[at + b];
     work[at + PART + n] = old;
     work[at + b] = n as u32 + 1;
+}
+
+// Takes all nodes out of the index.
+pub fn empty(work: &mut [u32])
+    ensures { λ _. ⌜ Emptied (now (work .entry)) (now (work .exit)) ⌝ }
+{
+    let m = memo_size(work.len());
+    if work.len() - m < 8192 {
+        return;
+    }
+    nodes::clear(&mut work[m..m + 4096]);
 }

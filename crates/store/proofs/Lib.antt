@@ -1,3 +1,5 @@
 pub mod Deciding
 pub mod Decide
 pub mod Fitting
+pub mod Rooms
+pub mod Both

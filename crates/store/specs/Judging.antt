@@ -3,8 +3,9 @@ use mathlib.Core.Path.{_≡_}
 use mathlib.Core.List.{List}
 use mathlib.Core.Bool.{Bool, true, false}
 use Prim.Native.Nat.{ℕ, _+_, _*_, _<_, _≤_}
-use lib.ListN.{length, getD}
-use Rattle.nodes.specs.Store.{Kind, arity, Store, handle-of}
+use lib.ListN.{length, getD, replicate}
+use Rattle.nodes.specs.Store.{Kind, set, rel, arity, Store, handle-of}
+use Rattle.nodes.specs.Images.{blank}
 use Rattle.nodes.specs.WellFormed.{Held, Even, WellFormed}
 use Rattle.memory.specs.Rows.{row, places, plain}
 use Rattle.memory.specs.Working.{Right}
@@ -46,4 +47,20 @@ pub record Start (k : ℕ) (K : Kind) (B : Store) (m w : List ℕ) : Type 0 wher
 pub record Judged (c n k : ℕ) (m w w′ : List ℕ) (r : Bool) : Type 0 where
   pub right : (K : Kind) (B : Store) → c ≡ arity K → n ≤ places c m → Start k K B m w → r ≡ true → Right K B w′ m n
   pub verdict : (K : Kind) (B : Store) → c ≡ arity K → n ≤ places c m → Start k K B m w → Tests r (WellFormed k (plain K B m n))
+  pub wide : length w′ ≡ length w
+
+abbrev pub other : Kind → Kind
+other set = rel
+other rel = set
+
+-- the n nodes of kind K in m, and the n′ of the other kind in m′
+abbrev pub both : Kind → List ℕ → ℕ → List ℕ → ℕ → Store
+both K m n m′ n′ = plain (other K) (plain K blank m n) m′ n′
+
+-- the working memory, cleared before, is then right for the kind judged last
+pub record BothJudged (c n c′ n′ k : ℕ) (m m′ w w′ : List ℕ) (r : Bool) : Type 0 where
+  pub right : (K : Kind) → c ≡ arity K → c′ ≡ arity (other K) → n ≤ places c m → n′ ≤ places c′ m′ → w ≡ replicate (length w) 0
+      → r ≡ true → Right (other K) (plain K blank m n) w′ m′ n′
+  pub verdict : (K : Kind) → c ≡ arity K → c′ ≡ arity (other K) → n ≤ places c m → n′ ≤ places c′ m′ → w ≡ replicate (length w) 0
+      → Tests r (WellFormed k (both K m n m′ n′))
   pub wide : length w′ ≡ length w

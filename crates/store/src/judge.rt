@@ -6,7 +6,7 @@ ghost use Prim.Native.Nat.{ℕ, _+_, _*_, _%_, _<_, _≤_};
 ghost use lib.ListN.{length, getD};
 ghost use Rattle.nodes.specs.Store.{Kind, arity, handle-of};
 ghost use Rattle.nodes.specs.WellFormed.{Even};
-ghost use Rattle.store.specs.Judging.{LevelIs, Tests, ChildrenFit, FitsNext, Judged};
+ghost use Rattle.store.specs.Judging.{LevelIs, Tests, ChildrenFit, FitsNext, Judged, BothJudged};
 
 // A handle's level, by its first children; at most k.
 pub fn level(nodes: &[u32], c: usize, k: u32, h: u32) -> u32
@@ -106,4 +106,25 @@ pub fn nodes_fit(nodes: &[u32], work: &mut [u32], c: usize, k: u32, n: usize) ->
         i += 1;
     }
     true
+}
+
+// Whether the nodes of both kinds keep the rules; the index is then of the second kind's.
+pub fn both_fit(
+    first: &[u32],
+    second: &[u32],
+    work: &mut [u32],
+    c1: usize,
+    n1: usize,
+    c2: usize,
+    n2: usize,
+    k: u32,
+) -> bool
+    requires { ⌜ (0 < c1) × (c1 * n1 ≤ length (now first)) × (n1 ≤ 4096) × (0 < c2) × (c2 * n2 ≤ length (now second)) × (n2 ≤ 4096) ⌝ }
+    ensures { λ r. ⌜ BothJudged c1 n1 c2 n2 k (now (first .entry)) (now (second .entry)) (now (work .entry)) (now (work .exit)) r ⌝ }
+{
+    if !nodes_fit(first, work, c1, k, n1) {
+        return false;
+    }
+    memory::index::empty(work);
+    nodes_fit(second, work, c2, k, n2)
 }

@@ -3,6 +3,7 @@ ghost use mathlib.Core.Path.{_≡_};
 ghost use Rattle.store.specs.Refusals.{number};
 
 pub mod judge;
+pub mod room;
 
 // Why a call is declined.
 pub enum Refusal {

@@ -1,0 +1,57 @@
+-- Taking all nodes out of the index: its heads become zero, from the laws of a part put back.
+use mathlib.Core.Path.{_≡_, refl, sym, ap, _∙_, subst}
+use mathlib.Core.List.{List, _++_}
+use Prim.Native.Nat.{ℕ, _+_, _-_, _<_, _≤_}
+use native.Mathlib.Omega.{arith}
+use lib.ListN.{length, getD, take, drop, replicate, List·getD-append, length-replicate, getD-replicate}
+use lib.Seq.{drop-drop, getD-append-add, length-take-le}
+use borrow.Rule.Slice.PartMut.{midOf, postOf, putMid, same-len-mid, take-put, drop-put, mid-len}
+use Rattle.memory.specs.Finding.{Emptied}
+use Rattle.memory.specs.Working.{memo-size, last-in}
+
+pub no-index : (w : List ℕ) (p : ℕ) → p ≡ memo-size (length w) → length w - p < 8192 → Emptied w w
+no-index w p e h = record { index = λ node f. absurd (let z : ⊥ = omega (arith, e) in z); memo = refl; words = refl; wide = refl }
+
+-- z is put for the heads, from p on
+module _ (w z : List ℕ) (p : ℕ) (e : p ≡ memo-size (length w)) (h : 8192 ≤ length w - p)
+    (q : z ≡ replicate (length (midOf p (p + 4096 - p) w)) 0) where
+  size : length (midOf p (p + 4096 - p) w) ≡ p + 4096 - p
+  size = mid-len p (p + 4096) w (omega arith)
+
+  heads-long : length z ≡ p + 4096 - p
+  heads-long = ap length q ∙ length-replicate (length (midOf p (p + 4096 - p) w)) 0 ∙ size
+
+  after : List ℕ
+  after = putMid p (p + 4096 - p) w z
+
+  wide-after : length after ≡ length w
+  unfolding after
+  wide-after = same-len-mid p (p + 4096 - p) w z (heads-long ∙ sym size)
+
+  head-zero : (b : ℕ) → b < 4096 → getD after (p + b) 0 ≡ 0
+  unfolding after
+  head-zero b l =
+      let rest = postOf p (p + 4096 - p) w in
+      let at : length (take p w) ≡ p = length-take-le p w (omega arith) in
+      ap (λ k. getD (take p w ++ (z ++ rest)) (k + b) 0) (sym at) ∙ getD-append-add (take p w) (z ++ rest) b 0
+      ∙ List·getD-append z rest 0 b (omega (arith, heads-long)) ∙ ap (λ (z : List ℕ). getD z b 0) q
+      ∙ getD-replicate (length (midOf p (p + 4096 - p) w)) b 0 0 (omega (arith, size))
+
+  further : (m : List ℕ) → drop (p + 8192) m ≡ drop 4096 (drop (p + 4096) m)
+  further m = let s : p + 8192 ≡ p + 4096 + 4096 = omega arith in ap (λ k. drop k m) s ∙ sym (drop-drop 4096 (p + 4096) m)
+
+  kept-behind : drop (p + 4096) after ≡ drop (p + 4096) w
+  unfolding after
+  kept-behind = drop-put p (p + 4096) w z (omega arith) (omega arith) heads-long
+
+  pub index-empty : Emptied w (putMid p (p + 4096 - p) w z)
+  unfolding after last-in
+  index-empty = record {
+    index = λ node f. record {
+      heads = λ b l. ap (λ k. getD after (k + b) 0) (ap memo-size wide-after ∙ sym e) ∙ head-zero b l;
+      links = λ i l. absurd (let z : ⊥ = omega arith in z);
+    };
+    memo = subst (λ k. take k after ≡ take k w) e (take-put p (p + 4096 - p) w z (omega arith));
+    words = subst (λ k. drop (k + 8192) after ≡ drop (k + 8192) w) e (further after ∙ ap (drop 4096) kept-behind ∙ sym (further w));
+    wide = wide-after;
+  }

@@ -1,0 +1,46 @@
+-- Working memory at the start: cleared it is right for any well-formed store, and with its index emptied it is right for the other kind.
+use mathlib.Core.Path.{_≡_, refl, sym, subst, _∙_}
+use mathlib.Core.List.{List}
+use Prim.Native.Nat.{ℕ, zero, suc, _+_, _*_, _<_, _≤_}
+use native.Mathlib.Omega.{arith}
+use lib.ListN.{length, getD, replicate}
+use Rattle.nodes.specs.Store.{Kind, arity, Store, nodes, handle-of}
+use Rattle.nodes.specs.WellFormed.{WellFormed}
+use Rattle.memory.specs.Rows.{row, plain}
+use Rattle.memory.specs.Finding.{Emptied}
+use Rattle.memory.specs.Working.{memo-size, words-at, last-in, Known, Entry, Right}
+use Rattle.memory.proofs.Known.{known-nothing}
+use Rattle.memory.proofs.Parts.{words-same, entry-same}
+use Rattle.memory.proofs.Rows.{row-at}
+
+-- a store that is the same with other nodes taken for its own
+pub right-turned : {J K : Kind} {B C : Store} {w w′ m m′ : List ℕ} {n : ℕ} → plain J C m′ 0 ≡ plain K B m n → Right K B w m n → Emptied w w′ → Right J C w′ m′ 0
+right-turned {J} {K} {B} {C} {w} {w′} {m} {m′} {n} e R E = record {
+  fields = R .fields;
+  formed = subst (WellFormed (R .fields)) (sym e) (R .formed);
+  memo = λ j f.
+      let g : 4 * j + 3 < memo-size (length w) = subst (λ k. 4 * j + 3 < memo-size k) (E .wide) f in
+      subst (λ S. Entry (row 4 w′ j) S) (sym e) (subst (λ x. Entry x (plain K B m n)) (sym (entry-same w w′ (E .memo) j g)) (R .memo j g));
+  index = E .index (row (arity J) m′);
+  words = λ I i a b.
+      subst (λ v. Known I (plain J C m′ 0) (handle-of I 0 i) v) (sym (words-same w w′ (E .wide) (E .words) I i))
+      (subst (λ S. Known I S (handle-of I 0 i) (getD w (words-at I (length w) + i) 0)) (sym e)
+      (R .words I i a (subst (λ S. i < length (nodes I S)) e b)));
+  unset = λ I i a b. words-same w w′ (E .wide) (E .words) I i ∙ R .unset I i (subst (λ S. length (nodes I S) ≤ i) e a) b;
+}
+
+zero-at : (n i : ℕ) → _≡_ {A = ℕ} (getD (replicate n 0) i 0) 0
+zero-at zero i = refl
+zero-at (suc n) zero = refl
+zero-at (suc n) (suc i) = zero-at n i
+
+pub right-cleared : {K : Kind} {B : Store} {m : List ℕ} (n k : ℕ) → WellFormed k (plain K B m 0) → Right K B (replicate n 0) m 0
+unfolding Entry last-in
+right-cleared {K} {B} {m} n k F = record {
+  fields = k;
+  formed = F;
+  memo = λ j f p. absurd (let z : ⊥ = omega (arith, row-at 4 (replicate n 0) j 0 (omega arith), zero-at n (4 * j + 0)) in z);
+  index = λ f. record { heads = λ b l. zero-at n (memo-size (length (replicate n 0)) + b); links = λ i l. absurd (let z : ⊥ = omega arith in z) };
+  words = λ J i a b. known-nothing _ (zero-at n (words-at J (length (replicate n 0)) + i));
+  unset = λ J i a b. zero-at n (words-at J (length (replicate n 0)) + i);
+}
