@@ -14,7 +14,8 @@ use Rattle.memory.proofs.Parts.{words-same, entry-same}
 use Rattle.memory.proofs.Rows.{row-at}
 
 -- a store that is the same with other nodes taken for its own
-pub right-turned : {J K : Kind} {B C : Store} {w w′ m m′ : List ℕ} {n : ℕ} → plain J C m′ 0 ≡ plain K B m n → Right K B w m n → Emptied w w′ → Right J C w′ m′ 0
+pub right-turned : {J K : Kind} {B C : Store} {w w′ m m′ : List ℕ} {n : ℕ} → plain J C m′ 0 ≡ plain K B m n
+    → Right K B w m n → Emptied w w′ → Right J C w′ m′ 0
 right-turned {J} {K} {B} {C} {w} {w′} {m} {m′} {n} e R E = record {
   fields = R .fields;
   formed = subst (WellFormed (R .fields)) (sym e) (R .formed);

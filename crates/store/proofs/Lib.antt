@@ -3,3 +3,4 @@ pub mod Decide
 pub mod Fitting
 pub mod Rooms
 pub mod Both
+pub mod Whole

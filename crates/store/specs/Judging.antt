@@ -4,11 +4,13 @@ use mathlib.Core.List.{List}
 use mathlib.Core.Bool.{Bool, true, false}
 use Prim.Native.Nat.{ℕ, _+_, _*_, _<_, _≤_}
 use lib.ListN.{length, getD, replicate}
-use Rattle.nodes.specs.Store.{Kind, set, rel, arity, Store, handle-of}
 use Rattle.nodes.specs.Images.{blank}
+use Rattle.nodes.specs.Store.{Kind, set, rel, arity, Store, handle-of}
 use Rattle.nodes.specs.WellFormed.{Held, Even, WellFormed}
 use Rattle.memory.specs.Rows.{row, places, plain}
 use Rattle.memory.specs.Working.{Right}
+use Rattle.store.specs.Memory.{fields, Memories, memory, count, body, decode}
+use Rattle.store.specs.Valid.{Room, store?}
 
 -- the level of a held handle
 abbrev pub LevelIs : List ℕ → ℕ → ℕ → ℕ → ℕ → Type 0
@@ -63,4 +65,20 @@ pub record BothJudged (c n c′ n′ k : ℕ) (m m′ w w′ : List ℕ) (r : Bo
       → r ≡ true → Right (other K) (plain K blank m n) w′ m′ n′
   pub verdict : (K : Kind) → c ≡ arity K → c′ ≡ arity (other K) → n ≤ places c m → n′ ≤ places c′ m′ → w ≡ replicate (length w) 0
       → Tests r (WellFormed k (both K m n m′ n′))
+  pub wide : length w′ ≡ length w
+
+-- all of `IsStore` but the nodes
+pub record HeadsFit (M : Memories) : Type 0 where
+  pub few : fields M ≤ 32
+  pub room : (K : Kind) → Room K (memory K M)
+
+-- the kind whose nodes are in the index in the end
+abbrev pub kind-last : Bool → Kind
+kind-last true = set
+kind-last false = rel
+
+-- whether both memories are a store; then the working memory is right for one kind's nodes
+pub record StoreJudged (M : Memories) (last : Bool) (w w′ : List ℕ) (r : Bool) : Type 0 where
+  pub says : r ≡ store? M
+  pub right : r ≡ true → (let K = kind-last last in Right K (decode M) w′ (body K (memory K M)) (count K (memory K M)))
   pub wide : length w′ ≡ length w

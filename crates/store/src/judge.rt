@@ -6,7 +6,8 @@ ghost use Prim.Native.Nat.{ℕ, _+_, _*_, _%_, _<_, _≤_};
 ghost use lib.ListN.{length, getD};
 ghost use Rattle.nodes.specs.Store.{Kind, arity, handle-of};
 ghost use Rattle.nodes.specs.WellFormed.{Even};
-ghost use Rattle.store.specs.Judging.{LevelIs, Tests, ChildrenFit, FitsNext, Judged, BothJudged};
+ghost use Rattle.store.specs.Memory.{memories};
+ghost use Rattle.store.specs.Judging.{LevelIs, Tests, ChildrenFit, FitsNext, Judged, BothJudged, StoreJudged};
 
 // A handle's level, by its first children; at most k.
 pub fn level(nodes: &[u32], c: usize, k: u32, h: u32) -> u32
@@ -127,4 +128,21 @@ pub fn both_fit(
     }
     memory::index::empty(work);
     nodes_fit(second, work, c2, k, n2)
+}
+
+// Whether both memories are a store; the index is then of the sets' nodes or of the relations'.
+pub fn is_store(relations: &[u32], sets: &[u32], work: &mut [u32], last: bool) -> bool
+    ensures { λ r. ⌜ StoreJudged (memories (now (relations .entry)) (now (sets .entry))) last (now (work .entry)) (now (work .exit)) r ⌝ }
+{
+    nodes::clear(work);
+    if !crate::room::heads_fit(relations, sets) {
+        return false;
+    }
+    let n = memory::wide(relations[1]);
+    let m = memory::wide(sets[0]);
+    if last {
+        both_fit(&relations[2..], &sets[1..], work, 4, n, 2, m, relations[0])
+    } else {
+        both_fit(&sets[1..], &relations[2..], work, 2, m, 4, n, relations[0])
+    }
 }

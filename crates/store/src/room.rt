@@ -5,7 +5,8 @@ ghost use lib.ListN.{length, getD};
 ghost use lib.Dec.{eqb};
 ghost use Rattle.nodes.specs.Store.{Kind, arity};
 ghost use Rattle.nodes.specs.Programs.{all-below};
-ghost use Rattle.store.specs.Memory.{head};
+ghost use Rattle.store.specs.Memory.{head, memories};
+ghost use Rattle.store.specs.Judging.{Tests, HeadsFit};
 ghost use Rattle.store.specs.Valid.{room?};
 
 // Whether the numbers from s to before e are zero.
@@ -37,4 +38,17 @@ pub fn has_room(m: &[u32], start: usize, c: usize) -> bool
         return false;
     }
     zeros(m, start + c * n, start + c * p)
+}
+
+// Whether both memories have room for what they say, and at most 32 fields.
+pub fn heads_fit(relations: &[u32], sets: &[u32]) -> bool
+    ensures { λ r. ⌜ Tests r (HeadsFit (memories (now (relations .entry)) (now (sets .entry)))) ⌝ }
+{
+    if !has_room(relations, 2, 4) {
+        return false;
+    }
+    if !has_room(sets, 1, 2) {
+        return false;
+    }
+    relations[0] <= 32
 }

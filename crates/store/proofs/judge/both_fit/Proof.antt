@@ -9,7 +9,11 @@ returns : tie.Need-returns
 returns c = first-fails _ _ _ (as-judged (not-true _ (c .if1 .taken)) (c .before .before .before .nodes-fit .ensures))
 
 returns-2 : tie.Need-returns-2
-returns-2 c = both-judged (as-judged (not-false _ (c .before .before .before .before .before .before .before .before .if1 .left)) (c .before .before .before .before .before .before .before .before .before .before .before .nodes-fit .ensures)) (c .before .before .before .before .before .before .empty .ensures) (c .before .before .nodes-fit2 .ensures)
+returns-2 c =
+    let i = c .before .before .before .before .before .before .before .before in
+    let e = c .before .before .before .before .before .before .empty in
+    both-judged (as-judged (not-false _ (i .if1 .left)) (i .before .before .before .nodes-fit .ensures)) (e .ensures)
+    (c .before .before .nodes-fit2 .ensures)
 
 pub both-fit-spec : {M : Type 1} → statement M
 both-fit-spec =
