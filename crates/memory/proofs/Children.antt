@@ -3,13 +3,12 @@ use mathlib.Core.Path.{_≡_, refl, sym, ap, _∙_, subst}
 use mathlib.Core.List.{List, []}
 use mathlib.Core.Bool.{Bool, true, false, _&&_}
 use Prim.Native.Nat.{ℕ, zero, suc, _+_, _*_, _/_, _%_, _<_, _≤_}
-use native.Mathlib.Nat.{mul-div-le}
-use native.Mathlib.Decide.{ℕ-discrete}
 use native.Mathlib.Omega.{arith}
+use native.Mathlib.Nat.{mul-div-le}
 use lib.ListN.{length, getD}
-use Rattle.nodes.specs.Store.{Kind, set, rel, arity, Store, nodes, signed, index, with-sign, get, child}
 use Rattle.nodes.specs.Programs.{all-below}
 use Rattle.nodes.specs.Safety.{Within}
+use Rattle.nodes.specs.Store.{Kind, set, rel, arity, Store, nodes, signed, index, with-sign, get, child}
 use Rattle.nodes.proofs.Signs.{getD-map}
 use Rattle.memory.specs.Rows.{row, places, plain}
 use Rattle.memory.proofs.Rows.{row-within, places-fit, row-at, row-length, plain-length, plain-at}
@@ -83,11 +82,3 @@ all-false (suc n) f (suc d) l e = go (f 0) (all-false n (λ d. f (suc d)) d (ome
     go : (b : Bool) → all-below n (λ d. f (suc d)) ≡ false → (b && all-below n (λ d. f (suc d))) ≡ false
     go true e = e
     go false e = refl
-
--- what is true of each child before d, and of d, is true of each before d + 1
-pub all-next : (P : ℕ → Type 0) (d : ℕ) → ((j : ℕ) → j < d → P j) → P d → (j : ℕ) → j < d + 1 → P j
-all-next P d h e j l = go (ℕ-discrete j d)
-  where
-    go : Dec (j ≡ d) → P j
-    go (yes q) = subst P (sym q) e
-    go (no q) = h j (omega arith)

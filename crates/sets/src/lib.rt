@@ -7,9 +7,11 @@ ghost use Rattle.nodes.specs.Store.{set, signed, stored, sign};
 ghost use Rattle.nodes.specs.Programs.{Prog};
 ghost use Rattle.nodes.specs.Recursion.{node2};
 ghost use Rattle.nodes.specs.Operations.{constant, is-zero, complement, union, union-op, union-tests, intersect, xor, xor-op};
-ghost use Rattle.nodes.specs.Operations.{xor-tests, difference, raise, test};
-ghost use Rattle.nodes.specs.Sets.{intersects, intersects-op, intersects-tests, ifelse};
+ghost use Rattle.nodes.specs.Operations.{xor-tests, difference};
+ghost use Rattle.nodes.specs.Sets.{intersects, intersects-op, intersects-tests};
 ghost use Rattle.memory.specs.Arena.{Performs, Looks, Answers};
+
+pub mod fields;
 
 // The operations' numbers in the memo.
 const UNION: u32 = 1;
@@ -17,9 +19,6 @@ const UNION: u32 = 1;
 const XOR: u32 = 2;
 
 const INTERSECTS: u32 = 3;
-
-// `ifelse` on field v has this number and v.
-const IFELSE: u32 = 64;
 
 // A node: two children, one for this field being 0 and one for it being 1.
 pub struct SPnode {
@@ -352,78 +351,4 @@ pub fn intersects(
             memory::memo::remember(work, r1, INTERSECTS, level, x, y)
         }
     }
-}
-
-// The first set where field var is 1, else the second; both of this level, which is above the field.
-pub fn ifelse(
-    nodes: &mut [u32],
-    work: &mut [u32],
-    s: memory::Arena,
-    level: u8,
-    var: u8,
-    then_branch: u32,
-    else_branch: u32,
-) -> memory::Arena
-    ensures { λ r. ⌜ Performs set (ifelse level var «then_branch» «else_branch») s
-        (now (nodes .entry)) (now (nodes .exit)) (now (work .entry)) (now (work .exit)) r ⌝ }
-{
-    if !s.ok {
-        return s;
-    }
-    if level == 0 {
-        return s;
-    }
-    let op = IFELSE + var as u32;
-    let found = memory::memo::recall(work, op, level, then_branch, else_branch);
-    if let memory::Found::Answer(h) = found {
-        return memory::place::give(s, h);
-    }
-    let t = get(nodes, then_branch);
-    let e = get(nodes, else_branch);
-    if var == 0 {
-        let r = mk(nodes, work, s, e.x0, t.x1);
-        return memory::memo::remember(work, r, op, level, then_branch, else_branch);
-    }
-    let r0 = ifelse(nodes, work, s, level - 1, var - 1, t.x0, e.x0);
-    let r1 = ifelse(nodes, work, r0, level - 1, var - 1, t.x1, e.x1);
-    let r = mk(nodes, work, r1, r0.h, r1.h);
-    memory::memo::remember(work, r, op, level, then_branch, else_branch)
-}
-
-// The set r .h with n more fields before its own.
-fn raise(nodes: &mut [u32], work: &mut [u32], r: memory::Arena, n: u8) -> memory::Arena
-    ensures { λ q. ⌜ Performs set (raise n (r .h)) r (now (nodes .entry)) (now (nodes .exit)) (now (work .entry)) (now (work .exit)) q ⌝ }
-{
-    if n == 0 {
-        return r;
-    }
-    let t = mk(nodes, work, r, r.h, r.h);
-    raise(nodes, work, t, n - 1)
-}
-
-// How many fields of k stand after field var.
-fn fields_after(k: u8, var: u8) -> u8
-    ensures { λ r. ⌜ r ≡ k - var - 1 ⌝ }
-{
-    if var < k { k - var - 1 } else { 0 }
-}
-
-// The packets of k fields whose field var has the value.
-pub fn test(
-    nodes: &mut [u32],
-    work: &mut [u32],
-    s: memory::Arena,
-    k: u8,
-    var: u8,
-    value: bool,
-) -> memory::Arena
-    ensures { λ r. ⌜ Performs set (test set k var value) s (now (nodes .entry)) (now (nodes .exit)) (now (work .entry)) (now (work .exit)) r ⌝ }
-{
-    let z = zero_at_depth(nodes, work, s, fields_after(k, var));
-    let m = mk(nodes, work, z, z.h, memory::words::other(z.h));
-    let r = raise(nodes, work, m, var);
-    if value {
-        return memory::place::give(r, r.h);
-    }
-    memory::place::give(r, memory::words::other(r.h))
 }

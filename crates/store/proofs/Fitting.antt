@@ -6,7 +6,6 @@ use mathlib.Core.Bool.{Bool, true, false}
 use Prim.Native.Nat.{ℕ, zero, suc, _+_, _-_, _*_, _<_, _≤_}
 use native.Mathlib.Nat.{add-zero}
 use native.Mathlib.Omega.{arith}
-use native.Mathlib.Decide.{decLt}
 use lib.ListN.{length, getD, take, drop, take-append-drop}
 use lib.Seq.{take-take, drop-drop, paste}
 use lib.Dec.{eqb, T, lt→ltb}
@@ -96,10 +95,6 @@ module _ {K : Kind} {B : Store} {m : List ℕ} {c : ℕ} (k i l d : ℕ) (e : c 
           earlier = subst (λ c. getD m (c * i + d) 0 < handle-of K 0 i) e b;
           held = subst (λ c. Held K (plain K B m i) l (getD m (c * i + d) 0)) e (subst (λ l. Held K (plain K B m i) l h) s (a .2));
         }
-
--- what holds of each number below d, and of d, holds below the next
-pub one-more : {P : ℕ → Type 0} (d : ℕ) → ((j : ℕ) → j < d → P j) → P d → (j : ℕ) → j < d + 1 → P j
-one-more {P} d f p j h = elim (decLt j d) [ yes a ↦ f j a | no a ↦ (let e : d ≡ j = omega arith in subst P e p) ]
 
 -- A NODE that fits
 pub row-first : (K : Kind) (m : List ℕ) (c i : ℕ) → c ≡ arity K → getD (row (arity K) m i) 0 0 ≡ getD m (c * i) 0

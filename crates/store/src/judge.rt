@@ -10,7 +10,7 @@ ghost use Rattle.store.specs.Memory.{memories};
 ghost use Rattle.store.specs.Judging.{LevelIs, Tests, ChildrenFit, FitsNext, Judged, BothJudged, StoreJudged};
 
 // A handle's level, by its first children; at most k.
-pub fn level(nodes: &[u32], c: usize, k: u32, h: u32) -> u32
+fn level(nodes: &[u32], c: usize, k: u32, h: u32) -> u32
     requires { ⌜ 0 < c ⌝ }
     ensures { λ r. ⌜ LevelIs (now (nodes .entry)) c k h r ⌝ }
 {
@@ -91,7 +91,7 @@ fn node_fits(nodes: &[u32], work: &[u32], c: usize, k: u32, i: usize) -> bool
 }
 
 // Whether all n nodes keep the rules.
-pub fn nodes_fit(nodes: &[u32], work: &mut [u32], c: usize, k: u32, n: usize) -> bool
+fn nodes_fit(nodes: &[u32], work: &mut [u32], c: usize, k: u32, n: usize) -> bool
     requires { ⌜ (0 < c) × (c * n ≤ length (now nodes)) × (n ≤ 4096) ⌝ }
     ensures { λ r. ⌜ Judged c n k (now (nodes .entry)) (now (work .entry)) (now (work .exit)) r ⌝ }
 {
@@ -110,7 +110,7 @@ pub fn nodes_fit(nodes: &[u32], work: &mut [u32], c: usize, k: u32, n: usize) ->
 }
 
 // Whether the nodes of both kinds keep the rules; the index is then of the second kind's.
-pub fn both_fit(
+fn both_fit(
     first: &[u32],
     second: &[u32],
     work: &mut [u32],

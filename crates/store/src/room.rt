@@ -25,7 +25,7 @@ fn zeros(m: &[u32], s: usize, e: usize) -> bool
 }
 
 // Whether a memory whose nodes of c numbers begin at `start` has room for as many as it says.
-pub fn has_room(m: &[u32], start: usize, c: usize) -> bool
+fn has_room(m: &[u32], start: usize, c: usize) -> bool
     requires { ⌜ (0 < start) × (0 < c) ⌝ }
     ensures { λ r. ⌜ ((K : Kind) → start ≡ head K → c ≡ arity K → r ≡ room? K (now (m .entry))) ⌝ }
 {

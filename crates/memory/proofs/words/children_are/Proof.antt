@@ -2,12 +2,13 @@
 use mathlib.Core.Path.{_≡_, sym, _∙_}
 use Prim.Native.Nat.{ℕ, _<_, _≤_, _-_}
 use native.Mathlib.Omega.{arith}
+use borrow.Author.Count.{below-more}
 use borrow.Author.Needs.{needs}
 use borrow.Author.Tests.{eq-eqb, ne-eqb}
 use Rattle.nodes.specs.Store.{Kind, Store, arity, child}
 use Rattle.nodes.specs.Safety.{Within}
 use Rattle.memory.specs.Rows.{places, plain}
-use Rattle.memory.proofs.Children.{all-true, all-false, all-next}
+use Rattle.memory.proofs.Children.{all-true, all-false}
 use Rattle.memory.proofs.words.children_are.Statement.{statement}
 use Rattle.memory.proofs.words.children_are.Tie as tie
 
@@ -33,7 +34,7 @@ loop-again : tie.Need-loop-again Inv-loop μ-loop
 loop-again c =
     let l = c .before .before .before .loop in (
       omega arith,
-      λ K B n a r w. all-next _ (l .d) (l .inv .1 K B n a r w) (sym (c .before .child-of .ensures K B n a r w) ∙ c .if1 .left),
+      λ K B n a r w. below-more _ (l .d) (l .inv .1 K B n a r w) (sym (c .before .child-of .ensures K B n a r w) ∙ c .if1 .left),
     )
 
 returns-2 : tie.Need-returns-2 Inv-loop μ-loop

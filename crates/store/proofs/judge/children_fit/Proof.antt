@@ -6,7 +6,8 @@ use Rattle.nodes.specs.Store.{Kind, arity, Store}
 use Rattle.nodes.specs.WellFormed.{WellFormed}
 use Rattle.memory.specs.Rows.{places, plain}
 use Rattle.store.specs.Judging.{ChildFits}
-use Rattle.store.proofs.Fitting.{says-no, says-yes, one-more, child-late, child-apart, child-fine}
+use Rattle.store.proofs.Fitting.{says-no, says-yes, child-late, child-apart, child-fine}
+use borrow.Author.Count.{below-more}
 use borrow.Author.Needs.{needs}
 use Rattle.store.proofs.judge.children_fit.Statement.{statement}
 use Rattle.store.proofs.judge.children_fit.Tie as tie
@@ -43,7 +44,7 @@ loop-again c =
     let c7 = c6 .before in
     let a = c7 .before .before .args in (
       omega arith,
-      λ K B e p t F. one-more (c6 .loop .d) (c6 .loop .inv .1 K B e p t F)
+      λ K B e p t F. below-more _ (c6 .loop .d) (c6 .loop .inv .1 K B e p t F)
           (child-fine {m = a .nodes .now} (a .k) (a .i) (a .l) (c6 .loop .d) e (c .before .level .result) p t (c .before .level .ensures) F
           (omega (arith, c3 .wide .ensures, c7 .handle-at .ensures K e)) (c .if2 .left)),
     )

@@ -6,12 +6,12 @@ use borrow.Fn.Kinds.{In}
 use borrow.Fn.PlainCycle.{Measures, is, falls, and}
 use Rattle.memory.proofs.Steps.{performs-by, performs-then, performs-ret}
 use Rattle.sets.proofs.Opened.{raise-zero, raise-step}
-use Rattle.sets.proofs.raise.Reads as raise
-use Rattle.sets.proofs.raise.Kinds as raise-kinds
-use Rattle.sets.proofs.+raise.Lts-raise as raise-lts
+use Rattle.sets.proofs.fields.raise.Reads as raise
+use Rattle.sets.proofs.fields.raise.Kinds as raise-kinds
+use Rattle.sets.proofs.fields.+raise.Lts-raise as raise-lts
 use Rattle.sets.proofs.mk.Reads as mk-reads
-use Rattle.sets.proofs.+raise.{statement}
-use Rattle.sets.proofs.+raise.Tie.{close}
+use Rattle.sets.proofs.fields.+raise.{statement}
+use Rattle.sets.proofs.fields.+raise.Tie.{close}
 
 abbrev μ-raise : Measures 2 raise-kinds.ps ℕ
 μ-raise κs a = a .1 .1 .1 .0

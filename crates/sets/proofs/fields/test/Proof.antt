@@ -3,8 +3,8 @@ use mathlib.Core.Path.{refl}
 use mathlib.Core.Bool.{true, false}
 use borrow.Author.Needs.{needs}
 use Rattle.sets.proofs.Tested.{test-returns}
-use Rattle.sets.proofs.test.Statement.{statement}
-use Rattle.sets.proofs.test.Tie as tie
+use Rattle.sets.proofs.fields.test.Statement.{statement}
+use Rattle.sets.proofs.fields.test.Tie as tie
 
 pub test-spec : {M : Type 1} → statement M
 test-spec =

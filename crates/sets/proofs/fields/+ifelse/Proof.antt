@@ -9,16 +9,16 @@ use Rattle.memory.proofs.Remembering.{recalled}
 use Rattle.memory.proofs.Steps.{begin, by, performs-stuck, given, impossible}
 use Rattle.sets.proofs.Opened.{ifelse-zero, ifelse-memo}
 use Rattle.sets.proofs.Branches.{here-returns, below-returns}
-use Rattle.sets.proofs.ifelse.Reads as ifelse
-use Rattle.sets.proofs.ifelse.Kinds as ifelse-kinds
-use Rattle.sets.proofs.+ifelse.Lts-ifelse as ifelse-lts
+use Rattle.sets.proofs.fields.ifelse.Reads as ifelse
+use Rattle.sets.proofs.fields.ifelse.Kinds as ifelse-kinds
+use Rattle.sets.proofs.fields.+ifelse.Lts-ifelse as ifelse-lts
 use Rattle.memory.proofs.memo.recall.Reads as recall-reads
 use Rattle.memory.proofs.memo.remember.Reads as remember-reads
 use Rattle.memory.proofs.place.give.Reads as give-reads
 use Rattle.sets.proofs.get.Reads as get-reads
 use Rattle.sets.proofs.mk.Reads as mk-reads
-use Rattle.sets.proofs.+ifelse.{statement}
-use Rattle.sets.proofs.+ifelse.Tie.{close}
+use Rattle.sets.proofs.fields.+ifelse.{statement}
+use Rattle.sets.proofs.fields.+ifelse.Tie.{close}
 
 abbrev μ-ifelse : Measures 2 ifelse-kinds.ps ℕ
 μ-ifelse κs a = a .1 .1 .1 .0
