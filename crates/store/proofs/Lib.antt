@@ -4,3 +4,11 @@ pub mod Fitting
 pub mod Rooms
 pub mod Both
 pub mod Whole
+pub mod Handles
+pub mod Reading
+pub mod Writing
+pub mod Encoding
+pub mod Outcomes
+pub mod Meant
+pub mod Running
+pub mod SetSteps

@@ -47,7 +47,7 @@ pub room-headed : (K : Kind) (m : List ℕ) {r : Bool} → r ≡ room? K m → r
 room-headed K m e p = room-says K m .iff .0 (true-T (sym e ∙ p)) .headed
 
 -- the numbers after a head, lent on
-whole-part : (a : ℕ) (m : List ℕ) → take (length m - a) (drop a m) ≡ drop a m
+pub whole-part : (a : ℕ) (m : List ℕ) → take (length m - a) (drop a m) ≡ drop a m
 whole-part a m = take-all (length m - a) (drop a m) (omega (arith, length-drop a m))
 
 pub part-fits : (K : Kind) (m : List ℕ) (n : ℕ) → Room K m → n ≡ count K m → (arity K * n ≤ length (take (length m - head K) (drop (head K) m))) × (n ≤ 4096)

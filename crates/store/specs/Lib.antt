@@ -1,4 +1,9 @@
 pub mod Memory
 pub mod Valid
-pub mod Refusals
+pub mod Answers
+pub mod Outcome
+pub mod Calls
+pub mod Meanings
 pub mod Judging
+pub mod Checking
+pub mod Finishing

@@ -10,9 +10,9 @@ ghost use Rattle.store.specs.Memory.{memories};
 ghost use Rattle.store.specs.Judging.{LevelIs, Tests, ChildrenFit, FitsNext, Judged, BothJudged, StoreJudged};
 
 // A handle's level, by its first children; at most k.
-fn level(nodes: &[u32], c: usize, k: u32, h: u32) -> u32
+pub fn level(nodes: &[u32], c: usize, k: u32, h: u32) -> u32
     requires { ⌜ 0 < c ⌝ }
-    ensures { λ r. ⌜ LevelIs (now (nodes .entry)) c k h r ⌝ }
+    ensures { λ r. ⌜ LevelIs (now (nodes .entry)) c k h r × (r ≤ k) ⌝ }
 {
     let mut l: u32 = 0;
     let mut g = h;

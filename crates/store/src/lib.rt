@@ -1,9 +1,14 @@
 // The public calls of a packet store on two lent memories.
 ghost use mathlib.Core.Path.{_≡_};
-ghost use Rattle.store.specs.Refusals.{number};
+ghost use Prim.Native.Nat.{_<_};
+ghost use Rattle.store.specs.Answers.{number};
 
+pub mod finish;
 pub mod judge;
+pub mod operands;
 pub mod room;
+pub mod set_calls;
+pub mod set_reads;
 
 // Why a call is declined.
 pub enum Refusal {
@@ -13,6 +18,20 @@ pub enum Refusal {
     NoChildren,
     OutOfRange,
     UsedUp,
+}
+
+// What a call answers.
+pub enum Answer {
+    Handle(u32),
+    Truth(bool),
+    Children(u32, u32),
+    Declined(Refusal),
+}
+
+// Whether a call may go on: the level of its operands, or why not.
+pub enum Check {
+    Level(u32),
+    No(Refusal),
 }
 
 // The refusal's number.
@@ -27,4 +46,12 @@ pub fn number_of(r: Refusal) -> u32
         Refusal::OutOfRange => 5,
         Refusal::UsedUp => 6,
     }
+}
+
+// A number below 256.
+pub fn narrow(x: u32) -> u8
+    requires { ⌜ x < 256 ⌝ }
+    ensures { λ r. ⌜ r ≡ x ⌝ }
+{
+    x as u8
 }

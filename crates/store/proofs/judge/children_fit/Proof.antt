@@ -35,7 +35,7 @@ returns-2 c =
     let c6 = c .before .before .before .before .before .before in
     let a = c6 .before .before .before .args in
     λ K B e p t F. says-no (λ f. child-apart {B = B} {m = a .nodes .now} (a .k) (a .i) (a .l) (c6 .loop .d) e (c .before .level .result) p t
-    (c .before .level .ensures) (c .if2 .taken) (f (c6 .loop .d) (omega (arith, e))))
+    (c .before .level .ensures .0) (c .if2 .taken) (f (c6 .loop .d) (omega (arith, e))))
 
 loop-again : tie.Need-loop-again Inv-loop μ-loop
 loop-again c =
@@ -45,7 +45,7 @@ loop-again c =
     let a = c7 .before .before .args in (
       omega arith,
       λ K B e p t F. below-more _ (c6 .loop .d) (c6 .loop .inv .1 K B e p t F)
-          (child-fine {m = a .nodes .now} (a .k) (a .i) (a .l) (c6 .loop .d) e (c .before .level .result) p t (c .before .level .ensures) F
+          (child-fine {m = a .nodes .now} (a .k) (a .i) (a .l) (c6 .loop .d) e (c .before .level .result) p t (c .before .level .ensures .0) F
           (omega (arith, c3 .wide .ensures, c7 .handle-at .ensures K e)) (c .if2 .left)),
     )
 

@@ -21,7 +21,7 @@ loop-holds : tie.Need-loop-holds Inv-loop μ-loop
 loop-holds c = (omega arith, λ K B n t e p A b. going-start A)
 
 returns : tie.Need-returns Inv-loop μ-loop
-returns c = λ K B n t e p A b. going-low (c .if1 .taken) (c .before .before .loop .inv .1 K B n t e p A b)
+returns c = (λ K B n t e p A b. going-low (c .if1 .taken) (c .before .before .loop .inv .1 K B n t e p A b), c .before .before .loop .inv .0)
 
 child-of-requires : tie.Need-child-of-requires Inv-loop μ-loop
 child-of-requires c κs = search needs
@@ -35,7 +35,7 @@ loop-again c =
     )
 
 returns-2 : tie.Need-returns-2 Inv-loop μ-loop
-returns-2 c = λ K B n t e p A b. let s = c .before .loop .inv .1 K B n t e p A b .sum in omega arith
+returns-2 c = (λ K B n t e p A b. let s = c .before .loop .inv .1 K B n t e p A b .sum in omega arith, c .before .loop .inv .0)
 
 pub level-spec : {M : Type 1} → statement M
 level-spec = tie.close (tie.spec Inv-loop μ-loop loop-holds returns child-of-requires (λ c. search needs) (λ c. search needs) loop-again returns-2)

@@ -12,13 +12,13 @@ returns : tie.Need-returns
 returns c = λ K B e p R F. says-no (λ N. let h = node-early e N in omega (arith, c .before .before .wide .ensures, c .before .handle-at .ensures K e))
 
 returns-2 : tie.Need-returns-2
-returns-2 c = λ K B e p R F. says-no (λ N. let h = node-under e N (c .before .level .result) (omega arith) (c .before .level .ensures) in omega arith)
+returns-2 c = λ K B e p R F. says-no (λ N. let h = node-under e N (c .before .level .result) (omega arith) (c .before .level .ensures .0) in omega arith)
 
 returns-3 : tie.Need-returns-3
 returns-3 c =
     let v = c .before .before .before .level in
     λ K B e p R F. says-no (λ N. c .before .children-fit .ensures K B e (omega arith) (omega arith) F .not (not-true _ (c .if3 .taken))
-    (node-below e N (v .result) (omega arith) (v .ensures)))
+    (node-below e N (v .result) (omega arith) (v .ensures .0)))
 
 returns-4 : tie.Need-returns-4
 returns-4 c =

@@ -1,0 +1,52 @@
+-- `finish` writes the count, or clears the places that were written.
+use mathlib.Core.Path.{_≡_, refl, sym, ap, _∙_}
+use mathlib.Core.List.{List}
+use Prim.Native.Nat.{ℕ, _-_, _*_, _≤_}
+use native.Mathlib.Nat.{mul-le-mul-left}
+use native.Mathlib.Omega.{arith}
+use lib.ListN.{length, replicate}
+use borrow.Author.Needs.{needs}
+use borrow.Rule.Slice.PartMut.{midOf, putMid, mid-len}
+use Rattle.memory.proofs.Steps.{false≢true}
+use Rattle.store.specs.Finishing.{cleared}
+use Rattle.store.proofs.finish.finish.Statement.{statement}
+use Rattle.store.proofs.finish.finish.Tie as tie
+
+-- what `clear` leaves of a part
+cleared-by : (s e : ℕ) (m z : List ℕ) → e ≤ length m → z ≡ replicate (length (midOf s (e - s) m)) 0 → putMid s (e - s) m z ≡ cleared s e m
+cleared-by s e m z h q = ap (λ (z : List ℕ). putMid s (e - s) m z) (q ∙ ap (λ l. replicate l 0) (mid-len s e m h))
+
+-- places that were there are before those that are written
+grown : (c : tie.Else1) → (let a = c .before .before .args in a .c * a .n ≤ a .c * a .r .n)
+grown c = mul-le-mul-left _ (c .before .before .pre .1)
+
+returns : tie.Need-returns
+returns c = record { fitted = λ t. (refl, refl); full = λ f. absurd (false≢true (sym f ∙ c .before .if1 .taken)) }
+
+returns-2 : tie.Need-returns-2
+returns-2 c = record {
+  fitted = λ t. absurd (false≢true (sym (c .before .before .before .before .before .if1 .left) ∙ t));
+  full = λ f. (refl, cleared-by _ _ _ _ (c .before .before .before .before .before .before .before .pre .3) (c .before .before .clear .ensures));
+}
+
+pub finish-spec : {M : Type 1} → statement M
+finish-spec =
+    tie.close
+    (tie.spec
+    (λ c. search needs)
+    (λ c. search needs)
+    (λ c. search needs)
+    (λ c. search needs)
+    (λ c. search needs)
+    returns
+    (λ c. omega (arith, grown c, c .before .before .pre))
+    (λ c. omega (arith, grown c, c .before .before .pre))
+    (λ c. search needs)
+    (λ c. search needs)
+    (λ c. omega (arith, grown (c .before), c .before .before .before .pre))
+    (λ c. omega (arith, grown (c .before), c .before .before .before .pre))
+    (λ c. omega (arith, grown (c .before), c .before .before .before .pre))
+    (λ c. search needs)
+    (λ c κs. search needs)
+    (λ c. search needs)
+    returns-2)

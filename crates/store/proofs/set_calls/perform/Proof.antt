@@ -1,0 +1,141 @@
+-- `perform` runs the call's program: the operation of `sets` does.
+use mathlib.Core.Path.{_≡_, sym, ap, _∙_, subst}
+use Prim.Native.Nat.{ℕ}
+use lib.Dec.{eqb}
+use borrow.Author.Needs.{needs}
+use Rattle.nodes.specs.Store.{set}
+use Rattle.nodes.specs.Operations.{test}
+use Rattle.nodes.specs.Sets.{ifelse}
+use Rattle.memory.proofs.Steps.{performs-by}
+use Rattle.store.specs.Calls.{set-program}
+use Rattle.store.specs.Checking.{FieldFits}
+use Rattle.store.specs.declared.set_calls.SetCall.{SetCall}
+use Rattle.store.specs.declared.set_calls.SetCall.the-variants.{Test, Ifelse}
+use Rattle.store.proofs.set_calls.perform.Statement.{statement}
+use Rattle.store.proofs.set_calls.perform.Tie as tie
+
+test-is : (k l : ℕ) {c : SetCall} {v b n : ℕ} → c ≡ Test v b → n ≡ v → set-program k l c ≡ test set k n (eqb b 1)
+test-is k l {b = b} e f = ap (set-program k l) e ∙ ap (λ v. test set k v (eqb b 1)) (sym f)
+
+ifelse-is : (k l : ℕ) {c : SetCall} {v n : ℕ} {t e : ℕ} → c ≡ Ifelse v t e → n ≡ v → set-program k l c ≡ ifelse l n t e
+ifelse-is k l {t = t} {e = e} q f = ap (set-program k l) q ∙ ap (λ v. ifelse l v t e) (sym f)
+
+returns : tie.Need-returns
+returns c =
+    let c4 = c .before .before .before .before in
+    let c8 = c4 .before .before .before .before in
+    performs-by (ap (set-program _ _) (c8 .call .given .1)) (c4 .mk .ensures)
+
+returns-2 : tie.Need-returns-2
+returns-2 c =
+    let c4 = c .before .before .before .before in
+    let c7 = c4 .before .before .before in
+    performs-by (ap (set-program _ _) (c7 .enum-told .given .1)) (c4 .zero-at-depth .ensures)
+
+returns-3 : tie.Need-returns-3
+returns-3 c =
+    let c4 = c .before .before .before .before in
+    let c7 = c4 .before .before .before in
+    performs-by (ap (set-program _ _) (c7 .enum-told2 .given .1)) (c4 .one-at-depth .ensures)
+
+returns-4 : tie.Need-returns-4
+returns-4 c =
+    let c4 = c .before .before .before .before in
+    let c8 = c4 .before .before .before .before in
+    performs-by (ap (set-program _ _) (c8 .call2 .given .1)) (c4 .union .ensures)
+
+returns-5 : tie.Need-returns-5
+returns-5 c =
+    let c4 = c .before .before .before .before in
+    let c8 = c4 .before .before .before .before in
+    performs-by (ap (set-program _ _) (c8 .call3 .given .1)) (c4 .intersect .ensures)
+
+returns-6 : tie.Need-returns-6
+returns-6 c =
+    let c4 = c .before .before .before .before in
+    let c8 = c4 .before .before .before .before in
+    performs-by (ap (set-program _ _) (c8 .call4 .given .1)) (c4 .xor .ensures)
+
+returns-7 : tie.Need-returns-7
+returns-7 c =
+    let c4 = c .before .before .before .before in
+    let c8 = c4 .before .before .before .before in
+    performs-by (ap (set-program _ _) (c8 .call5 .given .1)) (c4 .difference .ensures)
+
+returns-8 : tie.Need-returns-8
+returns-8 c =
+    let c4 = c .before .before .before .before in
+    let c5 = c4 .before in
+    let c9 = c5 .before .before .before .before in
+    performs-by (test-is _ _ (c9 .call6 .given .1) (c5 .narrow .ensures)) (c4 .test .ensures)
+
+returns-9 : tie.Need-returns-9
+returns-9 c =
+    let c4 = c .before .before .before .before in
+    let c5 = c4 .before in
+    let c9 = c5 .before .before .before .before in
+    performs-by (ifelse-is _ _ (c9 .call7 .given .1) (c5 .narrow2 .ensures)) (c4 .ifelse .ensures)
+
+narrow-requires : tie.Need-narrow-requires
+narrow-requires c κs =
+    let c3 = c .before .before .before in
+    let c7 = c3 .before .before .before .before in
+    subst FieldFits (c3 .call6 .given .1) (c7 .pre)
+
+narrow-requires-2 : tie.Need-narrow-requires-2
+narrow-requires-2 c κs =
+    let c3 = c .before .before .before in
+    let c7 = c3 .before .before .before .before in
+    subst FieldFits (c3 .call7 .given .1) (c7 .pre)
+
+pub perform-spec : {M : Type 1} → statement M
+perform-spec =
+    tie.close
+    (tie.spec
+    (λ c. search needs)
+    (λ c κs. search needs)
+    (λ c. search needs)
+    (λ c κs. search needs)
+    (λ c. search needs)
+    (λ c κs. search needs)
+    (λ c. search needs)
+    (λ c κs. search needs)
+    (λ c. search needs)
+    (λ c κs. search needs)
+    (λ c. search needs)
+    (λ c κs. search needs)
+    (λ c. search needs)
+    (λ c κs. search needs)
+    (λ c. search needs)
+    narrow-requires
+    (λ c κs. search needs)
+    (λ c. search needs)
+    narrow-requires-2
+    (λ c κs. search needs)
+    (λ c. search needs)
+    (λ c. search needs)
+    returns
+    (λ c. search needs)
+    (λ c. search needs)
+    returns-2
+    (λ c. search needs)
+    (λ c. search needs)
+    returns-3
+    (λ c. search needs)
+    (λ c. search needs)
+    returns-4
+    (λ c. search needs)
+    (λ c. search needs)
+    returns-5
+    (λ c. search needs)
+    (λ c. search needs)
+    returns-6
+    (λ c. search needs)
+    (λ c. search needs)
+    returns-7
+    (λ c. search needs)
+    (λ c. search needs)
+    returns-8
+    (λ c. search needs)
+    (λ c. search needs)
+    returns-9)

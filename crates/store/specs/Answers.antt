@@ -1,0 +1,32 @@
+-- Document 01's number and values for every case of an answer.
+use mathlib.Core.List.{List, [], _∷_}
+use mathlib.Core.Bool.{Bool, true, false}
+use Prim.Native.Nat.{ℕ}
+use Rattle.store.specs.declared.Refusal.{Refusal}
+use Rattle.store.specs.declared.Refusal.the-variants.{NotStore, NotHeld, LevelsDiffer, NoChildren, OutOfRange, UsedUp}
+use Rattle.store.specs.declared.Answer.{Answer}
+use Rattle.store.specs.declared.Answer.the-variants.{Handle, Truth, Children, Declined}
+
+-- 01, "What each operation declines, in order"
+abbrev pub number : Refusal → ℕ
+number NotStore = 1
+number NotHeld = 2
+number LevelsDiffer = 3
+number NoChildren = 4
+number OutOfRange = 5
+number UsedUp = 6
+
+-- the refusal's number, or 0
+abbrev pub refusal : Answer → ℕ
+refusal (Handle h) = 0
+refusal (Truth b) = 0
+refusal (Children x0 x1) = 0
+refusal (Declined r) = number r
+
+-- a handle, yes or no as 1 or 0, the children; nothing where the call is declined
+abbrev pub values : Answer → List ℕ
+values (Handle h) = h ∷ []
+values (Truth true) = 1 ∷ []
+values (Truth false) = 0 ∷ []
+values (Children x0 x1) = x0 ∷ x1 ∷ []
+values (Declined r) = []

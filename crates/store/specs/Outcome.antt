@@ -1,0 +1,46 @@
+-- What a call comes to, in document 01's order of refusals: one definition for memories and for the plain store.
+use mathlib.Core.Bool.{Bool, true, false}
+use Prim.Native.Nat.{ℕ}
+use lib.Dec.{eqb}
+use Rattle.nodes.specs.Store.{Kind, Store, pick}
+use Rattle.nodes.specs.Programs.{Prog, run}
+use Rattle.nodes.specs.Places.{fits-places}
+use Rattle.nodes.specs.WellFormed.{is-held, level-of}
+use Rattle.store.specs.declared.Refusal.{Refusal}
+use Rattle.store.specs.declared.Refusal.the-variants.{NotHeld, LevelsDiffer, UsedUp}
+use Rattle.store.specs.declared.Answer.{Answer}
+use Rattle.store.specs.declared.Answer.the-variants.{Handle, Declined}
+
+-- what the arguments and the nodes say of a call: a refusal, an answer read off the nodes, or a program to run
+pub data Verdict : Type 0 where
+  declines : Refusal → Verdict
+  gives : Answer → Verdict
+  runs : Prog → Verdict
+
+-- the call goes on where the test holds, and is declined with r where not
+unfoldable pub provided : Refusal → Bool → Verdict → Verdict
+provided r true v = v
+provided r false v = declines r
+
+-- 01: "2 handle not held"; the call goes on with the operand's level
+unfoldable pub of-one : ℕ → Kind → Store → ℕ → (ℕ → Verdict) → Verdict
+of-one k K S a v = provided NotHeld (is-held K S a) (v (level-of k K S a))
+
+-- 01: "3 levels differ"; the call goes on with the level of both
+unfoldable pub of-two : ℕ → Kind → Store → ℕ → ℕ → (ℕ → Verdict) → Verdict
+of-two k K S a b v = of-one k K S a (λ l. of-one k K S b (λ j. provided LevelsDiffer (eqb j l) (v l)))
+
+-- an answer, and what the store or the memories are afterwards
+pub record Told (X : Type 0) : Type 0 where
+  pub answer : Answer
+  pub state : X
+
+abbrev pub told : {X : Type 0} → Answer → X → Told X
+told a x = record { answer = a; state = x }
+
+-- m places for sets and n for relations. 01: "6 is returned exactly when the call .. would end with more nodes of either kind
+-- than there are places"; a refusal leaves x as it was
+unfoldable pub concludes : {X : Type 0} → ℕ → ℕ → Verdict → Store → X → (Store → X) → Told X
+concludes m n (declines r) S x put = told (Declined r) x
+concludes m n (gives a) S x put = told a x
+concludes m n (runs p) S x put = pick (fits-places m n (run p S .store)) (told (Handle (run p S .value)) (put (run p S .store))) (told (Declined UsedUp) x)

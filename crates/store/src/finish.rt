@@ -1,0 +1,26 @@
+// The end of a call that ran a program on the nodes of one kind.
+ghost use mathlib.Core.Path.{_≡_};
+ghost use Prim.Native.Nat.{ℕ, _+_, _*_, _<_, _≤_};
+ghost use lib.ListN.{length};
+ghost use Rattle.store.specs.Finishing.{Finished};
+
+// The count is written, or the nodes are again as they were: n nodes of c numbers, which begin at `start`.
+pub fn finish(
+    memory: &mut [u32],
+    start: usize,
+    c: usize,
+    n: usize,
+    r: memory::Arena,
+) -> crate::Answer
+    requires { ⌜ (0 < start) × (n ≤ r .n) × (r .n ≤ 4096) × (start + c * r .n ≤ length (now memory)) ⌝ }
+    ensures { λ a. ⌜ Finished (now (memory .entry)) (now (memory .exit)) start c n r a ⌝ }
+{
+    if r.ok {
+        memory[start - 1] = r.n as u32;
+        return crate::Answer::Handle(r.h);
+    }
+    let s = start + c * n;
+    let e = start + c * r.n;
+    nodes::clear(&mut memory[s..e]);
+    crate::Answer::Declined(crate::Refusal::UsedUp)
+}

@@ -1,0 +1,129 @@
+// The calls that may add sets.
+ghost use mathlib.Core.Path.{_≡_};
+ghost use lib.ListN.{length, replicate};
+ghost use Rattle.nodes.specs.Store.{set};
+ghost use Rattle.memory.specs.Arena.{Performs};
+ghost use Rattle.store.specs.Memory.{memories};
+ghost use Rattle.store.specs.Outcome.{told};
+ghost use Rattle.store.specs.Calls.{set-declines, set-program, set-call, step};
+ghost use Rattle.store.specs.Checking.{FieldFits, Checks, Ready};
+
+// A call with its arguments, after sp.rs: handles, and for `test` and `ifelse` a field first; a value is 0 or 1.
+pub enum SetCall {
+    Mk(u32, u32),
+    Zero,
+    One,
+    Union(u32, u32),
+    Intersect(u32, u32),
+    Xor(u32, u32),
+    Difference(u32, u32),
+    Test(u32, u32),
+    Ifelse(u32, u32, u32),
+}
+
+// Whether a call may run on the first n nodes.
+fn check(nodes: &[u32], n: usize, k: u32, call: SetCall) -> crate::Check
+    ensures { λ r. ⌜ Checks set (now (nodes .entry)) n k (λ S v. set-declines k call S v) r ⌝ }
+{
+    match call {
+        SetCall::Mk(a, b) => crate::operands::children(nodes, 2, n, k, a, b),
+        SetCall::Zero => crate::Check::Level(k),
+        SetCall::One => crate::Check::Level(k),
+        SetCall::Union(a, b) => crate::operands::two(nodes, 2, n, k, a, b),
+        SetCall::Intersect(a, b) => crate::operands::two(nodes, 2, n, k, a, b),
+        SetCall::Xor(a, b) => crate::operands::two(nodes, 2, n, k, a, b),
+        SetCall::Difference(a, b) => crate::operands::two(nodes, 2, n, k, a, b),
+        SetCall::Test(var, value) => crate::operands::field(k, var, value),
+        SetCall::Ifelse(var, t, e) => crate::operands::branches(nodes, 2, n, k, var, t, e),
+    }
+}
+
+// Runs a call whose operands are of this level, in a store of k fields.
+fn perform(
+    nodes: &mut [u32],
+    work: &mut [u32],
+    s: memory::Arena,
+    k: u8,
+    level: u8,
+    call: SetCall,
+) -> memory::Arena
+    requires { ⌜ FieldFits call ⌝ }
+    ensures { λ r. ⌜ Performs set (set-program k level call) s (now (nodes .entry)) (now (nodes .exit)) (now (work .entry)) (now (work .exit)) r ⌝ }
+{
+    match call {
+        SetCall::Mk(a, b) => sets::mk(nodes, work, s, a, b),
+        SetCall::Zero => sets::zero_at_depth(nodes, work, s, k),
+        SetCall::One => sets::one_at_depth(nodes, work, s, k),
+        SetCall::Union(a, b) => sets::union(nodes, work, s, level, a, b),
+        SetCall::Intersect(a, b) => sets::intersect(nodes, work, s, level, a, b),
+        SetCall::Xor(a, b) => sets::xor(nodes, work, s, level, a, b),
+        SetCall::Difference(a, b) => sets::difference(nodes, work, s, level, a, b),
+        SetCall::Test(var, value) => sets::fields::test(
+            nodes,
+            work,
+            s,
+            k,
+            crate::narrow(var),
+            value == 1,
+        ),
+        SetCall::Ifelse(var, t, e) => sets::fields::ifelse(
+            nodes,
+            work,
+            s,
+            level,
+            crate::narrow(var),
+            t,
+            e,
+        ),
+    }
+}
+
+// Checks a call on a store, and runs it.
+fn judged(relations: &[u32], sets: &mut [u32], work: &mut [u32], call: SetCall) -> crate::Answer
+    requires { ⌜ Ready set (memories (now relations) (now sets)) (now work) ⌝ }
+    ensures { λ r. ⌜ told r (memories (now (relations .entry)) (now (sets .exit)))
+        ≡ step (set-call call) (memories (now (relations .entry)) (now (sets .entry))) ⌝ }
+{
+    let k = relations[0];
+    let n = memory::wide(sets[0]);
+    let check = check(&sets[1..], n, k, call);
+    match check {
+        crate::Check::No(r) => crate::Answer::Declined(r),
+        crate::Check::Level(l) => {
+            let s = memory::Arena {
+                ok: true,
+                n: n,
+                h: 0,
+            };
+            let r = perform(
+                &mut sets[1..],
+                work,
+                s,
+                crate::narrow(k),
+                crate::narrow(l),
+                call,
+            );
+            crate::finish::finish(sets, 1, 2, n, r)
+        }
+    }
+}
+
+// A call on any numbers in both memories.
+pub fn set_call(
+    relations: &[u32],
+    sets: &mut [u32],
+    work: &mut [u32],
+    call: SetCall,
+) -> crate::Answer
+    ensures { λ r. ⌜ (told r (memories (now (relations .entry)) (now (sets .exit)))
+        ≡ step (set-call call) (memories (now (relations .entry)) (now (sets .entry))))
+        × (now (work .exit) ≡ replicate (length (now (work .entry))) 0) ⌝ }
+{
+    if !crate::judge::is_store(relations, sets, work, true) {
+        nodes::clear(work);
+        return crate::Answer::Declined(crate::Refusal::NotStore);
+    }
+    let r = judged(relations, sets, work, call);
+    nodes::clear(work);
+    r
+}

@@ -1,0 +1,84 @@
+// The calls on sets that add nothing.
+ghost use mathlib.Core.Path.{_≡_};
+ghost use lib.ListN.{length, replicate};
+ghost use Rattle.nodes.specs.Store.{set};
+ghost use Rattle.store.specs.Memory.{memories};
+ghost use Rattle.store.specs.Outcome.{told};
+ghost use Rattle.store.specs.Calls.{read-declines, set-read, step};
+ghost use Rattle.store.specs.Checking.{Checks, ReadsAnswer, Ready};
+
+// A call with its arguments, after sp.rs.
+pub enum SetRead {
+    Get(u32),
+    Complement(u32),
+    IsZero(u32),
+    Intersects(u32, u32),
+}
+
+// The level of a call's operands on the first n nodes.
+fn check(nodes: &[u32], n: usize, k: u32, call: SetRead) -> crate::Check
+    ensures { λ r. ⌜ Checks set (now (nodes .entry)) n k (λ S v. read-declines k call S v) r ⌝ }
+{
+    match call {
+        SetRead::Get(a) => crate::operands::parent(nodes, 2, n, k, a),
+        SetRead::Complement(a) => crate::operands::one(nodes, 2, n, k, a),
+        SetRead::IsZero(a) => crate::operands::one(nodes, 2, n, k, a),
+        SetRead::Intersects(a, b) => crate::operands::two(nodes, 2, n, k, a, b),
+    }
+}
+
+// The answer of a call whose operands are of this level, among n nodes.
+fn answer(nodes: &[u32], work: &mut [u32], n: usize, level: u8, call: SetRead) -> crate::Answer
+    ensures { λ r. ⌜ ReadsAnswer (now (nodes .entry)) (now (work .entry)) n level call r ⌝ }
+{
+    let s = memory::Arena {
+        ok: true,
+        n: n,
+        h: 0,
+    };
+    match call {
+        SetRead::Get(a) => {
+            let x = sets::get(nodes, a);
+            crate::Answer::Children(x.x0, x.x1)
+        }
+        SetRead::Complement(a) => crate::Answer::Handle(memory::words::other(a)),
+        SetRead::IsZero(a) => {
+            let r = sets::is_zero(nodes, work, s, level, a);
+            crate::Answer::Truth(r.h == 1)
+        }
+        SetRead::Intersects(a, b) => {
+            let r = sets::intersects(nodes, work, s, level, a, b);
+            crate::Answer::Truth(r.h == 1)
+        }
+    }
+}
+
+// Checks a call on a store, and answers it.
+fn judged(relations: &[u32], sets: &[u32], work: &mut [u32], call: SetRead) -> crate::Answer
+    requires { ⌜ Ready set (memories (now relations) (now sets)) (now work) ⌝ }
+    ensures { λ r. ⌜ told r (memories (now (relations .entry)) (now (sets .entry)))
+        ≡ step (set-read call) (memories (now (relations .entry)) (now (sets .entry))) ⌝ }
+{
+    let k = relations[0];
+    let n = memory::wide(sets[0]);
+    let check = check(&sets[1..], n, k, call);
+    match check {
+        crate::Check::No(r) => crate::Answer::Declined(r),
+        crate::Check::Level(l) => answer(&sets[1..], work, n, crate::narrow(l), call),
+    }
+}
+
+// A call on any numbers in both memories.
+pub fn set_read(relations: &[u32], sets: &[u32], work: &mut [u32], call: SetRead) -> crate::Answer
+    ensures { λ r. ⌜ (told r (memories (now (relations .entry)) (now (sets .entry)))
+        ≡ step (set-read call) (memories (now (relations .entry)) (now (sets .entry))))
+        × (now (work .exit) ≡ replicate (length (now (work .entry))) 0) ⌝ }
+{
+    if !crate::judge::is_store(relations, sets, work, true) {
+        nodes::clear(work);
+        return crate::Answer::Declined(crate::Refusal::NotStore);
+    }
+    let r = judged(relations, sets, work, call);
+    nodes::clear(work);
+    r
+}
