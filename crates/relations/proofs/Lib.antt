@@ -1,2 +1,4 @@
 pub mod Nodes
 pub mod Opened
+pub mod Ways
+pub mod Children
