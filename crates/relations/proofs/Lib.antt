@@ -2,3 +2,4 @@ pub mod Nodes
 pub mod Opened
 pub mod Ways
 pub mod Children
+pub mod Matrices

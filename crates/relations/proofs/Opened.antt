@@ -8,6 +8,7 @@ use Rattle.nodes.specs.Operations.{constant, identity-at-depth, is-zero, comple
 use Rattle.nodes.specs.Operations.{xor-tests, xor-op, xor, difference-op, difference}
 use Rattle.nodes.specs.Programs.{isEmpty, same, less, has, Prog, ret, ask, mk, _>>=_}
 use Rattle.nodes.specs.Recursion.{node1, op1, node2, op2}
+use Rattle.nodes.specs.Relations.{sequence-op, sequence, star-op, star, flip-op, flip}
 use Rattle.nodes.specs.Store.{rel}
 use Rattle.memory.specs.Memo.{memo-program}
 use Rattle.memory.proofs.Steps.{Stands, begin, by, yes, no, same-says}
@@ -73,6 +74,22 @@ module _ (l a b : ℕ) where
   unfolding memo-program
   complement-memo = refl
 
+  pub sequence-is : sequence l a b ≡ sequence-op .short l a b (node2 sequence-op l)
+  unfolding sequence op2
+  sequence-is = refl
+
+  pub sequence-memo : node2 sequence-op l a b ≡ memo-program 9 l a b
+  unfolding memo-program
+  sequence-memo = refl
+
+  pub star-memo : node1 star-op l a ≡ memo-program 10 l a b
+  unfolding memo-program
+  star-memo = refl
+
+  pub flip-memo : node1 flip-op l a ≡ memo-program 11 l a b
+  unfolding memo-program
+  flip-memo = refl
+
 module _ {p q q′ : Prog} {a b : ℕ} {m w : List ℕ} (e : p ≡ ask (same a b) q q′) where
   pub equal : a ≡ b → Stands rel p q m w
   equal h = yes (by begin e) (same-says (eq-eqb a b h))
@@ -88,3 +105,11 @@ complement-is l a = refl
 pub is-zero-is : (l a : ℕ) → is-zero rel l a ≡ ask (has isEmpty rel l a) (ret 1) (ret 0)
 unfolding is-zero
 is-zero-is l a = refl
+
+pub star-is : (l a : ℕ) → star l a ≡ star-op .short l a (node1 star-op l a)
+unfolding star op1
+star-is l a = refl
+
+pub flip-is : (l a : ℕ) → flip l a ≡ ask (less a 2) (ret a) (node1 flip-op l a)
+unfolding flip op1
+flip-is l a = refl

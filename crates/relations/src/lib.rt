@@ -11,6 +11,8 @@ ghost use Rattle.memory.specs.Arena.{Performs, Looks, Answers};
 ghost use Rattle.memory.specs.Memo.{memo-program};
 ghost use Rattle.relations.specs.Ways.{Goes, way-of, lattice-tests, difference-tests};
 
+pub mod products;
+
 // The operations' numbers in the memo.
 const UNION: u32 = 4;
 
