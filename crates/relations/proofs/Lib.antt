@@ -3,3 +3,4 @@ pub mod Opened
 pub mod Ways
 pub mod Children
 pub mod Matrices
+pub mod Naming

@@ -11,6 +11,7 @@ ghost use Rattle.memory.specs.Arena.{Performs, Looks, Answers};
 ghost use Rattle.memory.specs.Memo.{memo-program};
 ghost use Rattle.relations.specs.Ways.{Goes, way-of, lattice-tests, difference-tests};
 
+pub mod fields;
 pub mod products;
 
 // The operations' numbers in the memo.
