@@ -21,7 +21,7 @@ use Rattle.memory.specs.Memo.{memo-program}
 use Rattle.memory.specs.Rows.{row, places, plain}
 use Rattle.memory.specs.Working.{memo-size, links-at, words-at, Indexed, Known, tag, Entry, Remembers, Right}
 use Rattle.memory.proofs.Parts.{drop-at-same}
-use Rattle.memory.proofs.Steps.{was-ok, done-ran, Stands, turn}
+use Rattle.memory.proofs.Steps.{was-ok, done-ran, Stands, turn, called}
 
 -- index and words stand behind the memo
 module _ (w w′ : List ℕ) (long : length w′ ≡ length w) (rest : drop (memo-size (length w)) w′ ≡ drop (memo-size (length w)) w) where
@@ -89,6 +89,12 @@ performs-remember {K} {p} {s} {r} {m} {m′} {w} {w₁} {w₂} op l a b e i d k 
         let S = plain K B m (s .n) in
         subst (λ q. Settled q (plain K B m′ (r .n)) (r .h)) e
         (subst (λ (Q : Ran). Settled p (Q .store) (Q .value)) (sym (done-ran c t)) (settled p S (R .live (was-ok c t) .safe)))
+
+-- what is left is done and kept in the memo
+pub called-kept : {K : Kind} {p n : Prog} {s r q : Arena} {m m′ w w₁ w₂ : List ℕ} (op l a b : ℕ) → s .ok ≡ true → l < 256 → n ≡ memo-program op l a b
+    → Stands K p n m w → Performs K n s m m′ w w₁ r → (q ≡ r) × Remembered r op l a b w₁ w₂ → Performs K p s m m′ w w₂ q
+called-kept {K} {p} {s = s} {m = m} {m′ = m′} {w = w} {w₂ = w₂} op l a b ok i e u d k =
+    subst (λ z. Performs K p s m m′ w w₂ z) (sym (k .0)) (called ok u (performs-remember op l a b e i d (k .1)))
 
 -- the memo knows the answer of what is left
 pub recalled : {K : Kind} {p q : Prog} {m w : List ℕ} {h : ℕ} {r : Found} (op l a b : ℕ) → q ≡ memo-program op l a b → Stands K p q m w

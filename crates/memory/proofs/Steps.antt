@@ -9,9 +9,9 @@ use lib.ListN.{length, take, drop, length-append}
 use lib.Seq.{drop-drop, take-take}
 use lib.Dec.{eqb, ltb, leb}
 use borrow.Author.Tests.{le-leb, lt-leb, leb-false}
-use Rattle.nodes.specs.Programs.{isEmpty, isUniversal, Test, same, less, has, holds, Prog, panic, ret, ask, look, bind, Ran, ran, run}
+use Rattle.nodes.specs.Programs.{isEmpty, isUniversal, isIdentity, Test, same, less, has, holds, Prog, panic, ret, ask, look, bind, Ran, ran, run}
 use Rattle.nodes.specs.Safety.{Sure, Safe}
-use Rattle.nodes.specs.Store.{Kind, arity, Store, nodes}
+use Rattle.nodes.specs.Store.{Kind, rel, arity, Store, nodes}
 use Rattle.nodes.specs.WellFormed.{Extends}
 use Rattle.nodes.proofs.Bools.{by-test}
 use Rattle.nodes.proofs.Settle.{run-ext}
@@ -210,6 +210,9 @@ module _ {K : Kind} {m w : List ℕ} {l h : ℕ} {r : Properties} {v : Bool} (T�
 
   pub universal-says : r .universal ≡ v → Decides K m w (has isUniversal K l h) v
   universal-says e = record { decides = λ B n i R s. T′ .tells (R .fields) B n i (R .formed) (R .words) s .universal ∙ e }
+
+pub identity-says : {m w : List ℕ} {l h : ℕ} {r : Properties} {v : Bool} → Tells rel m w l h r → r .identity ≡ v → Decides rel m w (has isIdentity rel l h) v
+identity-says A e = record { decides = λ B n i R s. A .tells (R .fields) B n i (R .formed) (R .words) s .identity refl ∙ e }
 
 -- a number is given, after a failure or not
 pub performs-ret : {K : Kind} {s r : Arena} {m w : List ℕ} (h : ℕ) → r ≡ arena (s .ok) (s .n) h → Performs K (ret h) s m m w w r

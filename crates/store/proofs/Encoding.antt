@@ -183,7 +183,8 @@ module _ {k : ℕ} {S : Store} {M : Memories} (F : WellFormed k S) (p : Space S 
   }
 
   over-one : (K : Kind) (j : ℕ) (h : List ℕ) (N : Nodes) → write K h N (write K (heads K j (nodes K S)) (nodes K S) (memory K M)) ≡ write K h N (memory K M)
-  over-one K j h N = write-write K (heads K j (nodes K S)) (nodes K S) (memory K M) (heads-long K j (nodes K S)) (formed-all K F) (p .within K) (p .headed K) h N
+  over-one K j h N = write-write K (heads K j (nodes K S)) (nodes K S) (memory K M) (heads-long K j (nodes K S)) (formed-all K F)
+      (p .within K) (p .headed K) h N
 
   -- the next store written over it
   pub encode-encode : (j i : ℕ) (T : Store) → encode i T (encode j S M) ≡ encode i T M

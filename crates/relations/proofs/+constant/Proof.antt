@@ -1,0 +1,44 @@
+-- `constant` runs its program; the measure is the level.
+use mathlib.Core.Path.{_≡_}
+use Prim.Native.Nat.{ℕ, _<_}
+use native.Mathlib.Omega.{arith}
+use borrow.Author.Needs.{needs}
+use borrow.Fn.Kinds.{In}
+use borrow.Fn.PlainCycle.{Measures, is, falls, and}
+use Rattle.memory.proofs.Steps.{performs-by, performs-then, performs-ret}
+use Rattle.relations.proofs.Opened.{constant-zero, constant-step}
+use Rattle.relations.proofs.constant.Reads as constant
+use Rattle.relations.proofs.constant.Kinds as constant-kinds
+use Rattle.relations.proofs.+constant.Lts-constant as constant-lts
+use Rattle.memory.proofs.place.give.Reads as give-reads
+use Rattle.relations.proofs.mk.Reads as mk-reads
+use Rattle.relations.proofs.+constant.{statement}
+use Rattle.relations.proofs.+constant.Tie.{close}
+
+abbrev μ-constant : Measures 2 constant-kinds.ps ℕ
+μ-constant κs a = a .1 .1 .1 .0
+
+abbrev constant-at : ℕ → In 2 constant-kinds.ps
+constant-at t = and 2 constant-kinds.ps (is 2 constant-kinds.ps μ-constant t) constant.Pre
+
+abbrev constant-below : ℕ → In 2 constant-kinds.ps
+constant-below t = and 2 constant-kinds.ps (falls 2 constant-kinds.ps _<_ μ-constant t) constant.Pre
+
+abbrev calls : ℕ → constant-lts.Claims
+calls t = (give-reads.Asked, give-reads.Learnt, constant-below t, constant.Post, mk-reads.Asked, mk-reads.Learnt)
+
+pub +constant-spec : {M : Type 1} → statement M
++constant-spec = close μ-constant
+    (λ t. constant-lts.spec (calls t) (constant-at t) constant.Post
+    (λ c κs. search needs)
+    (λ c. performs-by (constant-zero _ _ (c .before .if1 .taken)) (performs-ret _ (c .give .ensures)))
+    (λ c. search needs)
+    (λ c κs. search needs)
+    (λ c κs. search needs)
+    (λ c. search needs)
+    (λ c. search needs)
+    (λ c.
+    let c4 = c .before .before .before .before in
+    let c11 = c4 .before .before .before .before .before .before .before in
+    let c14 = c11 .before .before .before in
+    performs-by (constant-step _ _ (c14 .if1 .left)) (performs-then (c11 .constant .ensures) (c4 .mk .ensures))))

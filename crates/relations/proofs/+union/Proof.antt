@@ -1,0 +1,135 @@
+-- `union` runs its program; the measure is the level.
+use Prim.Native.Nat.{ℕ, _<_}
+use native.Mathlib.Omega.{arith}
+use borrow.Fn.PlainCycle.{Measures, is, falls, and}
+use borrow.Author.Needs.{needs}
+use borrow.Fn.Kinds.{In}
+use borrow.Author.Tests.{not-true, not-false}
+use Rattle.nodes.specs.Store.{rel}
+use Rattle.nodes.specs.Recursion.{node2}
+use Rattle.nodes.specs.Operations.{union-op, union as union-program}
+use Rattle.nodes.proofs.Recursion.{node2-zero}
+use Rattle.memory.proofs.Steps.{by, further, performs-stuck, given, impossible, answer-stands, node-stands}
+use Rattle.relations.proofs.Children.{opened2, four-returns}
+use Rattle.relations.proofs.Opened.{equal, differ, union-is, union-memo}
+use Rattle.relations.proofs.union.Reads as union
+use Rattle.relations.proofs.union.Kinds as union-kinds
+use Rattle.relations.proofs.+union.Lts-union as union-lts
+use Rattle.memory.proofs.memo.remember.Reads as remember-reads
+use Rattle.memory.proofs.place.give.Reads as give-reads
+use Rattle.relations.proofs.get.Reads as get-reads
+use Rattle.relations.proofs.lattice_tests.Reads as lattice-tests-reads
+use Rattle.relations.proofs.mk.Reads as mk-reads
+use Rattle.relations.proofs.+union.{statement}
+use Rattle.relations.proofs.+union.Tie.{close}
+
+abbrev μ-union : Measures 2 union-kinds.ps ℕ
+μ-union κs a = a .1 .1 .1 .0
+
+abbrev union-at : ℕ → In 2 union-kinds.ps
+union-at t = and 2 union-kinds.ps (is 2 union-kinds.ps μ-union t) union.Pre
+
+abbrev union-below : ℕ → In 2 union-kinds.ps
+union-below t = and 2 union-kinds.ps (falls 2 union-kinds.ps _<_ μ-union t) union.Pre
+
+abbrev calls : ℕ → union-lts.Claims
+calls t = (
+  give-reads.Asked,
+  give-reads.Learnt,
+  lattice-tests-reads.Asked,
+  lattice-tests-reads.Learnt,
+  get-reads.Asked,
+  get-reads.Learnt,
+  union-below t,
+  union.Post,
+  mk-reads.Asked,
+  mk-reads.Learnt,
+  remember-reads.Asked,
+  remember-reads.Learnt,
+)
+
+pub +union-spec : {M : Type 1} → statement M
+unfolding union-program
++union-spec = close μ-union
+    (λ t. union-lts.spec (calls t) (union-at t) union.Post
+    (λ c. performs-stuck (not-true _ (c .if1 .taken)))
+    (λ c κs. search needs)
+    (λ c. given (not-false _ (c .before .before .if1 .left)) (equal (union-is _ _ _) (c .before .if2 .taken)) (c .give .ensures))
+    (λ c κs. search needs)
+    (λ c. search needs)
+    (λ c κs. search needs)
+    (λ c. search needs)
+    (λ c. search needs)
+    (λ c. search needs)
+    (λ c.
+    let c4 = c .before .before .before .before in
+    let c7 = c4 .before .before .before in
+    let c8 = c7 .before in
+    impossible (not-false _ (c8 .if1 .left))
+    (by (further (differ (union-is _ _ _) (c7 .if2 .left))
+    (node-stands (c4 .lattice-tests .ensures (node2 (union-op rel) _) (union-memo _)) (c .before .before .found2 .given .1)))
+    (node2-zero (union-op rel) _ _ _ (c .if3 .taken))))
+    (λ c κs. search needs)
+    (λ c κs. search needs)
+    (λ c. search needs)
+    (λ c κs.
+    let c6 = c .before .before .before .before .before .before in
+    let c18 = c6 .before .before .before .before .before .before .before .before .before .before .before .before in
+    (omega (arith, c18 .pre .0, c6 .if3 .left), tt))
+    (λ c κs.
+    let c13 = c .before .before .before .before .before .before .before .before .before .before .before .before .before in
+    let c25 = c13 .before .before .before .before .before .before .before .before .before .before .before .before in
+    (omega (arith, c25 .pre .0, c13 .if3 .left), tt))
+    (λ c κs.
+    let c14 = c .before .before .before .before .before .before .before .before .before .before .before .before .before .before in
+    let c20 = c14 .before .before .before .before .before .before in
+    let c32 = c20 .before .before .before .before .before .before .before .before .before .before .before .before in
+    (omega (arith, c32 .pre .0, c20 .if3 .left), tt))
+    (λ c κs.
+    let c14 = c .before .before .before .before .before .before .before .before .before .before .before .before .before .before in
+    let c27 = c14 .before .before .before .before .before .before .before .before .before .before .before .before .before in
+    let c39 = c27 .before .before .before .before .before .before .before .before .before .before .before .before in
+    (omega (arith, c39 .pre .0, c27 .if3 .left), tt))
+    (λ c κs. search needs)
+    (λ c κs. search needs)
+    (λ c. search needs)
+    (λ c. search needs)
+    (λ c.
+    let c4 = c .before .before .before .before in
+    let c7 = c4 .before .before .before in
+    let c8 = c7 .before in
+    given (not-false _ (c8 .if1 .left)) (further (differ (union-is _ _ _) (c7 .if2 .left))
+    (answer-stands (c4 .lattice-tests .ensures (node2 (union-op rel) _) (union-memo _)) (c .before .before .found .given .1))) (c .give2 .ensures))
+    (λ c.
+    let c7 = c .before .before .before .before .before .before .before in
+    let c14 = c7 .before .before .before .before .before .before .before in
+    let c21 = c14 .before .before .before .before .before .before .before in
+    let c28 = c21 .before .before .before .before .before .before .before in
+    let c35 = c28 .before .before .before .before .before .before .before in
+    omega (arith, c7 .nodes5 .given, c14 .nodes4 .given, c21 .nodes3 .given, c28 .nodes2 .given, c35 .nodes .given))
+    (λ c.
+    let c5 = c .before .before .before .before .before in
+    let c12 = c5 .before .before .before .before .before .before .before in
+    let c19 = c12 .before .before .before .before .before .before .before in
+    let c26 = c19 .before .before .before .before .before .before .before in
+    let c33 = c26 .before .before .before .before .before .before .before in
+    omega (arith, c .before .work6 .given, c5 .work5 .given, c12 .work4 .given, c19 .work3 .given, c26 .work2 .given, c33 .work .given))
+    (λ c.
+    let c8 = c .before .before .before .before .before .before .before .before in
+    let c15 = c8 .before .before .before .before .before .before .before in
+    let c22 = c15 .before .before .before .before .before .before .before in
+    let c29 = c22 .before .before .before .before .before .before .before in
+    let c36 = c29 .before .before .before .before .before .before .before in
+    let c39 = c36 .before .before .before in
+    let c41 = c39 .before .before in
+    let c43 = c41 .before .before in
+    let c45 = c43 .before .before in
+    let c47 = c45 .before .before in
+    let c50 = c47 .before .before .before in
+    let c51 = c50 .before in
+    let c55 = c51 .before .before .before .before in
+    four-returns 4 _ _ _ (not-false _ (c51 .if1 .left)) (omega (arith, c55 .fits .level .fits)) (union-memo _ _ _)
+    (further (differ (union-is _ _ _) (c50 .if2 .left))
+    (node-stands (c47 .lattice-tests .ensures (node2 (union-op rel) _) (union-memo _)) (c45 .found2 .given .1)))
+    (opened2 _ _ _ _ _ (c43 .if3 .left) (c41 .get .ensures) (c39 .get2 .ensures)) (c36 .union .ensures) (c29 .union2 .ensures) (c22 .union3 .ensures)
+    (c15 .union4 .ensures) (c8 .mk .ensures) (c .before .before .remember .ensures)))

@@ -1,0 +1,39 @@
+-- An operation on the children of a node: what is left when they are read, and what four calls, `mk` and the memo do.
+use mathlib.Core.Path.{_≡_}
+use mathlib.Core.List.{List, [], _∷_}
+use mathlib.Core.Bool.{true}
+use Prim.Native.Nat.{ℕ, _-_, _<_}
+use Rattle.nodes.specs.Programs.{Prog}
+use Rattle.nodes.specs.Recursion.{Op1, node1, op1, Op2, node2, op2, four}
+use Rattle.nodes.specs.Store.{rel}
+use Rattle.nodes.proofs.Recursion.{node1-open, node2-open}
+use Rattle.memory.specs.Arena.{Performs, Looks, Remembered}
+use Rattle.memory.specs.Memo.{memo-program}
+use Rattle.memory.proofs.Remembering.{called-kept}
+use Rattle.memory.proofs.Steps.{performs-then, Stands, begin, by, looked, called}
+use Rattle.memory.specs.declared.Arena.{Arena}
+
+-- an operation on one relation, on two
+abbrev pub on-one : (ℕ → ℕ → Prog → Prog) → (ℕ → (ℕ → Prog) → List ℕ → Prog) → Op1
+on-one short kids = record { kind = rel; short = short; kids = kids }
+
+abbrev pub on-two : (ℕ → ℕ → ℕ → (ℕ → ℕ → Prog) → Prog) → (ℕ → (ℕ → ℕ → Prog) → List ℕ → List ℕ → Prog) → Op2
+on-two short kids = record { first = rel; second = rel; short = short; kids = kids }
+
+module _ {m w : List ℕ} where
+  pub opened1 : (short : ℕ → ℕ → Prog → Prog) (kids : ℕ → (ℕ → Prog) → List ℕ → Prog) (l x : ℕ) {p : List ℕ} → (l ≡ 0 → ⊥) → Looks rel m x p
+      → Stands rel (node1 (on-one short kids) l x) (kids (l - 1) (op1 (on-one short kids) (l - 1)) p) m w
+  opened1 short kids l x h X = looked (by begin (node1-open (on-one short kids) l x h)) X
+
+  pub opened2 : (short : ℕ → ℕ → ℕ → (ℕ → ℕ → Prog) → Prog) (kids : ℕ → (ℕ → ℕ → Prog) → List ℕ → List ℕ → Prog) (l x y : ℕ) {p q : List ℕ}
+      → (l ≡ 0 → ⊥) → Looks rel m x p → Looks rel m y q
+      → Stands rel (node2 (on-two short kids) l x y) (kids (l - 1) (op2 (on-two short kids) (l - 1)) p q) m w
+  opened2 short kids l x y h X Y = looked (looked (by begin (node2-open (on-two short kids) l x y h)) X) Y
+
+-- four calls in order, then f of their handles, and the memo keeps the answer
+pub four-returns : {p n q0 q1 q2 q3 : Prog} {f : ℕ → ℕ → ℕ → ℕ → Prog} {s r0 r1 r2 r3 r q : Arena} {m m0 m1 m2 m3 m4 w w0 w1 w2 w3 w4 w5 : List ℕ}
+    (op l x y : ℕ) → s .ok ≡ true → l < 256 → n ≡ memo-program op l x y → Stands rel p n m w → Stands rel n (four q0 q1 q2 q3 f) m w
+    → Performs rel q0 s m m0 w w0 r0 → Performs rel q1 r0 m0 m1 w0 w1 r1 → Performs rel q2 r1 m1 m2 w1 w2 r2 → Performs rel q3 r2 m2 m3 w2 w3 r3
+    → Performs rel (f (r0 .h) (r1 .h) (r2 .h) (r3 .h)) r3 m3 m4 w3 w4 r → (q ≡ r) × Remembered r op l x y w4 w5 → Performs rel p s m m4 w w5 q
+four-returns op l x y ok b e u o d0 d1 d2 d3 d k =
+    called-kept op l x y ok b e u (called ok o (performs-then d0 (performs-then d1 (performs-then d2 (performs-then d3 d))))) k

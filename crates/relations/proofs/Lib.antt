@@ -1,0 +1,6 @@
+pub mod Nodes
+pub mod Opened
+pub mod Ways
+pub mod Children
+pub mod Matrices
+pub mod Naming

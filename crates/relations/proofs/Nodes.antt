@@ -1,0 +1,15 @@
+-- A relation's node is stored as it is given, and its handle has no sign.
+use mathlib.Core.Path.{refl}
+use mathlib.Core.List.{List}
+use Prim.Native.Nat.{ℕ, _+_}
+use lib.ListN.{length}
+use mathlib.Core.Path.{_≡_}
+use Rattle.nodes.specs.Programs.{mk}
+use Rattle.nodes.specs.Store.{rel}
+use Rattle.memory.specs.Arena.{arena, Performs, JoinsAs}
+use Rattle.memory.specs.declared.Arena.{Arena}
+
+-- a node that joined, with its handle
+pub joined-performs : {s r : Arena} {m m′ w w′ : List ℕ} (x : List ℕ) → length x ≡ 4 → JoinsAs x s m m′ w w′ r
+    → Performs rel (mk rel x) s m m′ w w′ (arena (r .ok) (r .n) (r .h + 2))
+joined-performs x z J = record { runs = λ B R. J .node rel x z refl .joins B _ R refl }

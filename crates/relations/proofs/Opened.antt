@@ -1,0 +1,115 @@
+-- The programs of relations opened one step, and their numbers in the memo.
+use mathlib.Core.Path.{_≡_, refl, ap}
+use mathlib.Core.List.{List, [], _∷_}
+use Prim.Native.Nat.{ℕ, zero, suc, _-_}
+use native.Mathlib.Omega.{arith}
+use borrow.Author.Tests.{eq-eqb, ne-eqb}
+use Rattle.nodes.specs.Operations.{constant, identity-at-depth, is-zero, complement-op, complement, union-op, union, intersect-op, intersect}
+use Rattle.nodes.specs.Operations.{xor-tests, xor-op, xor, difference-op, difference}
+use Rattle.nodes.specs.Programs.{isEmpty, same, less, has, Prog, ret, ask, mk, _>>=_}
+use Rattle.nodes.specs.Recursion.{node1, op1, node2, op2}
+use Rattle.nodes.specs.Relations.{sequence-op, sequence, star-op, star, flip-op, flip}
+use Rattle.nodes.specs.Store.{rel}
+use Rattle.memory.specs.Memo.{memo-program}
+use Rattle.memory.proofs.Steps.{Stands, begin, by, yes, no, same-says}
+use Rattle.relations.specs.Ways.{lattice-tests, difference-tests}
+
+pub constant-zero : (c l : ℕ) → l ≡ 0 → constant rel c l ≡ ret c
+unfolding constant
+constant-zero c zero e = refl
+constant-zero c (suc l) e = absurd (let z : ⊥ = omega arith in z)
+
+pub constant-step : (c l : ℕ) → (l ≡ 0 → ⊥) → constant rel c l ≡ (constant rel c (l - 1) >>= λ z. mk rel (z ∷ z ∷ z ∷ z ∷ []))
+unfolding constant
+constant-step c zero h = absurd (h refl)
+constant-step c (suc l) h = let e : l ≡ suc l - 1 = omega arith in ap (λ n. constant rel c n >>= λ z. mk rel (z ∷ z ∷ z ∷ z ∷ [])) e
+
+pub identity-zero : (l : ℕ) → l ≡ 0 → identity-at-depth l ≡ ret 1
+unfolding identity-at-depth
+identity-zero zero e = refl
+identity-zero (suc l) e = absurd (let z : ⊥ = omega arith in z)
+
+pub identity-step : (l : ℕ) → (l ≡ 0 → ⊥)
+    → identity-at-depth l ≡ (identity-at-depth (l - 1) >>= λ one. constant rel 0 (l - 1) >>= λ z. mk rel (one ∷ z ∷ z ∷ one ∷ []))
+unfolding identity-at-depth
+identity-step zero h = absurd (h refl)
+identity-step (suc l) h = let e : l ≡ suc l - 1 = omega arith in
+    ap (λ n. identity-at-depth n >>= λ one. constant rel 0 n >>= λ z. mk rel (one ∷ z ∷ z ∷ one ∷ [])) e
+
+-- OPERATIONS on two relations: the test on equal operands, then the others
+module _ (l a b : ℕ) where
+  pub union-is : union rel l a b ≡ ask (same a b) (ret a) (lattice-tests l a b b a (node2 (union-op rel) l))
+  unfolding union op2
+  union-is = refl
+
+  pub intersect-is : intersect rel l a b ≡ ask (same a b) (ret a) (lattice-tests l a b a b (node2 intersect-op l))
+  unfolding intersect op2
+  intersect-is = refl
+
+  pub xor-is : xor rel l a b ≡ ask (same a b) (constant rel 0 l) (xor-tests rel l a b (node2 (xor-op rel) l))
+  unfolding xor op2
+  xor-is = refl
+
+  pub difference-is : difference rel l a b ≡ ask (same a b) (constant rel 0 l) (difference-tests l a b (node2 difference-op l))
+  unfolding difference op2
+  difference-is = refl
+
+  pub union-memo : node2 (union-op rel) l a b ≡ memo-program 4 l a b
+  unfolding memo-program
+  union-memo = refl
+
+  pub intersect-memo : node2 intersect-op l a b ≡ memo-program 5 l a b
+  unfolding memo-program
+  intersect-memo = refl
+
+  pub xor-memo : node2 (xor-op rel) l a b ≡ memo-program 6 l a b
+  unfolding memo-program
+  xor-memo = refl
+
+  pub difference-memo : node2 difference-op l a b ≡ memo-program 7 l a b
+  unfolding memo-program
+  difference-memo = refl
+
+  pub complement-memo : node1 complement-op l a ≡ memo-program 8 l a b
+  unfolding memo-program
+  complement-memo = refl
+
+  pub sequence-is : sequence l a b ≡ sequence-op .short l a b (node2 sequence-op l)
+  unfolding sequence op2
+  sequence-is = refl
+
+  pub sequence-memo : node2 sequence-op l a b ≡ memo-program 9 l a b
+  unfolding memo-program
+  sequence-memo = refl
+
+  pub star-memo : node1 star-op l a ≡ memo-program 10 l a b
+  unfolding memo-program
+  star-memo = refl
+
+  pub flip-memo : node1 flip-op l a ≡ memo-program 11 l a b
+  unfolding memo-program
+  flip-memo = refl
+
+module _ {p q q′ : Prog} {a b : ℕ} {m w : List ℕ} (e : p ≡ ask (same a b) q q′) where
+  pub equal : a ≡ b → Stands rel p q m w
+  equal h = yes (by begin e) (same-says (eq-eqb a b h))
+
+  pub differ : (a ≡ b → ⊥) → Stands rel p q′ m w
+  differ h = no (by begin e) (same-says (ne-eqb a b h))
+
+-- OPERATIONS on one
+pub complement-is : (l a : ℕ) → complement rel l a ≡ ask (less a 2) (ret (1 - a)) (node1 complement-op l a)
+unfolding complement op1
+complement-is l a = refl
+
+pub is-zero-is : (l a : ℕ) → is-zero rel l a ≡ ask (has isEmpty rel l a) (ret 1) (ret 0)
+unfolding is-zero
+is-zero-is l a = refl
+
+pub star-is : (l a : ℕ) → star l a ≡ star-op .short l a (node1 star-op l a)
+unfolding star op1
+star-is l a = refl
+
+pub flip-is : (l a : ℕ) → flip l a ≡ ask (less a 2) (ret a) (node1 flip-op l a)
+unfolding flip op1
+flip-is l a = refl

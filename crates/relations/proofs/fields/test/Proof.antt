@@ -1,0 +1,17 @@
+-- `test` is kept in the memo.
+use borrow.Author.Needs.{needs}
+use Rattle.nodes.specs.Operations.{test}
+use Rattle.relations.proofs.fields.test.Statement.{statement}
+use Rattle.relations.proofs.fields.test.Tie as tie
+
+pub test-spec : {M : Type 1} → statement M
+unfolding test
+test-spec =
+    tie.close
+    (tie.spec
+    (λ c κs. search needs)
+    (λ c. search needs)
+    (λ c. search needs)
+    (λ c.
+    let c4 = c .before .before .before .before in
+    c4 .kept .ensures))

@@ -1,0 +1,18 @@
+-- `get` reads the four children.
+use native.Mathlib.Omega.{arith}
+use borrow.Author.Needs.{needs}
+use Rattle.memory.proofs.Looking.{looks-four}
+use Rattle.relations.proofs.get.Statement.{statement}
+use Rattle.relations.proofs.get.Tie as tie
+
+pub get-spec : {M : Type 1} → statement M
+get-spec =
+    tie.close
+    (tie.spec
+    (λ c κs. search needs)
+    (λ c κs. search needs)
+    (λ c κs. search needs)
+    (λ c κs. search needs)
+    (λ c.
+    let c3 = c .before .before .before in
+    looks-four (c3 .child-of .ensures) (c .before .before .child-of2 .ensures) (c .before .child-of3 .ensures) (c .child-of4 .ensures)))

@@ -1,0 +1,139 @@
+// The operations of spp.rs that name a field: `test` and `assign`.
+ghost use mathlib.Core.Path.{_≡_};
+ghost use mathlib.Core.List.{List, [], _∷_};
+ghost use mathlib.Core.Bool.{Bool, true, false};
+ghost use Prim.Native.Nat.{ℕ, _<_};
+ghost use lib.Dec.{eqb};
+ghost use Rattle.nodes.specs.Store.{rel, pick};
+ghost use Rattle.nodes.specs.Programs.{Prog};
+ghost use Rattle.nodes.specs.Operations.{fields, test, assign};
+ghost use Rattle.memory.specs.Arena.{Performs};
+ghost use Rattle.relations.specs.Fields.{field-node};
+
+// The operations' numbers in the memo.
+const TEST: u32 = 12;
+
+const ASSIGN: u32 = 13;
+
+// The number of `assign` or of `test`.
+fn number(assigns: bool) -> u32
+    ensures { λ r. ⌜ (r ≡ pick assigns 13 12) × (0 < r) × (r < 16777216) ⌝ }
+{
+    if assigns { ASSIGN } else { TEST }
+}
+
+// A value as the memo keeps it.
+fn bit(value: bool) -> u32
+    ensures { λ r. ⌜ eqb r 1 ≡ value ⌝ }
+{
+    if value { 1 } else { 0 }
+}
+
+// The node of field i: at field var that of `assign` or `test`, elsewhere the identity's.
+fn field(
+    nodes: &mut [u32],
+    work: &mut [u32],
+    s: memory::Arena,
+    i: u8,
+    var: u8,
+    assigns: bool,
+    value: bool,
+    res: u32,
+    zero: u32,
+) -> memory::Arena
+    ensures { λ r. ⌜ Performs rel (Prog.mk rel (pick (eqb i var) (field-node assigns value res zero) (res ∷ zero ∷ zero ∷ res ∷ []))) s
+        (now (nodes .entry)) (now (nodes .exit)) (now (work .entry)) (now (work .exit)) r ⌝ }
+{
+    if i != var {
+        return crate::mk(nodes, work, s, res, zero, zero, res);
+    }
+    if assigns {
+        if value {
+            return crate::mk(nodes, work, s, zero, res, zero, res);
+        }
+        return crate::mk(nodes, work, s, res, zero, res, zero);
+    }
+    if value {
+        return crate::mk(nodes, work, s, zero, zero, zero, res);
+    }
+    crate::mk(nodes, work, s, res, zero, zero, zero)
+}
+
+// The nodes of the first n fields, from the last up; res and zero are those of the fields after.
+fn fields(
+    nodes: &mut [u32],
+    work: &mut [u32],
+    s: memory::Arena,
+    n: u8,
+    var: u8,
+    assigns: bool,
+    value: bool,
+    res: u32,
+    zero: u32,
+) -> memory::Arena
+    ensures { λ r. ⌜ Performs rel (fields (field-node assigns value) var n res zero) s
+        (now (nodes .entry)) (now (nodes .exit)) (now (work .entry)) (now (work .exit)) r ⌝ }
+{
+    if n == 0 {
+        return memory::place::give(s, res);
+    }
+    let i = n - 1;
+    let r = field(nodes, work, s, i, var, assigns, value, res, zero);
+    let z = crate::mk(nodes, work, r, zero, zero, zero, zero);
+    fields(nodes, work, z, i, var, assigns, value, r.h, z.h)
+}
+
+// `assign` or `test` of field var among k fields, from the memo or from its nodes.
+fn kept(
+    nodes: &mut [u32],
+    work: &mut [u32],
+    s: memory::Arena,
+    k: u8,
+    var: u8,
+    assigns: bool,
+    value: bool,
+) -> memory::Arena
+    ensures { λ r. ⌜ Performs rel (fields (field-node assigns value) var k 1 0) s
+        (now (nodes .entry)) (now (nodes .exit)) (now (work .entry)) (now (work .exit)) r ⌝ }
+{
+    if !s.ok {
+        return s;
+    }
+    let op = number(assigns);
+    let b = bit(value);
+    let v = var as u32;
+    let found = memory::memo::recall(work, op, k, v, b);
+    if let memory::Found::Answer(h) = found {
+        return memory::place::give(s, h);
+    }
+    let r = fields(nodes, work, s, k, var, assigns, value, 1, 0);
+    memory::memo::remember(work, r, op, k, v, b)
+}
+
+// The packets of k fields whose field var has the value, each to itself.
+pub fn test(
+    nodes: &mut [u32],
+    work: &mut [u32],
+    s: memory::Arena,
+    k: u8,
+    var: u8,
+    value: bool,
+) -> memory::Arena
+    ensures { λ r. ⌜ Performs rel (test rel k var value) s (now (nodes .entry)) (now (nodes .exit)) (now (work .entry)) (now (work .exit)) r ⌝ }
+{
+    kept(nodes, work, s, k, var, false, value)
+}
+
+// Each packet of k fields to that with the value in field var.
+pub fn assign(
+    nodes: &mut [u32],
+    work: &mut [u32],
+    s: memory::Arena,
+    k: u8,
+    var: u8,
+    value: bool,
+) -> memory::Arena
+    ensures { λ r. ⌜ Performs rel (assign k var value) s (now (nodes .entry)) (now (nodes .exit)) (now (work .entry)) (now (work .exit)) r ⌝ }
+{
+    kept(nodes, work, s, k, var, true, value)
+}

@@ -1,0 +1,422 @@
+// Relations on packets, after spp.rs: operations on relation nodes in a lent slice. Each runs its program of `nodes` for every working memory.
+ghost use mathlib.Core.Path.{_≡_};
+ghost use mathlib.Core.List.{List, [], _∷_};
+ghost use Prim.Native.Nat.{ℕ, _<_};
+ghost use Rattle.nodes.specs.Store.{rel};
+ghost use Rattle.nodes.specs.Programs.{Prog, less, ask};
+ghost use Rattle.nodes.specs.Recursion.{node2};
+ghost use Rattle.nodes.specs.Operations.{constant, identity-at-depth, is-zero, complement, union, intersect, xor, xor-op, xor-tests};
+ghost use Rattle.nodes.specs.Operations.{difference, difference-op};
+ghost use Rattle.memory.specs.Arena.{Performs, Looks, Answers};
+ghost use Rattle.memory.specs.Memo.{memo-program};
+ghost use Rattle.relations.specs.Ways.{Goes, way-of, lattice-tests, difference-tests};
+
+pub mod fields;
+pub mod products;
+
+// The operations' numbers in the memo.
+const UNION: u32 = 4;
+
+const INTERSECT: u32 = 5;
+
+const XOR: u32 = 6;
+
+const DIFFERENCE: u32 = 7;
+
+const COMPLEMENT: u32 = 8;
+
+// A node: four children, the first digit for the input's field and the second for the output's.
+pub struct SPPnode {
+    pub x00: u32,
+    pub x01: u32,
+    pub x10: u32,
+    pub x11: u32,
+}
+
+// What shortcuts know where another operation may answer: the answer, its operand, or on which operands the operation goes on.
+pub enum Way {
+    Answer(u32),
+    Other(u32),
+    Operands(u32, u32),
+}
+
+// The children of a handle; 0 where it has no node.
+pub fn get(nodes: &[u32], spp: u32) -> SPPnode
+    ensures { λ r. ⌜ Looks rel (now (nodes .entry)) spp (r .x00 ∷ r .x01 ∷ r .x10 ∷ r .x11 ∷ []) ⌝ }
+{
+    let x00 = memory::words::child_of(nodes, 4, spp, 0);
+    let x01 = memory::words::child_of(nodes, 4, spp, 1);
+    let x10 = memory::words::child_of(nodes, 4, spp, 2);
+    let x11 = memory::words::child_of(nodes, 4, spp, 3);
+    SPPnode {
+        x00: x00,
+        x01: x01,
+        x10: x10,
+        x11: x11,
+    }
+}
+
+// The node held, else a new one.
+pub fn mk(
+    nodes: &mut [u32],
+    work: &mut [u32],
+    s: memory::Arena,
+    x00: u32,
+    x01: u32,
+    x10: u32,
+    x11: u32,
+) -> memory::Arena
+    ensures { λ r. ⌜ Performs rel (Prog.mk rel (x00 ∷ x01 ∷ x10 ∷ x11 ∷ [])) s
+        (now (nodes .entry)) (now (nodes .exit)) (now (work .entry)) (now (work .exit)) r ⌝ }
+{
+    let x = [x00, x01, x10, x11];
+    let r = memory::place::join(nodes, work, s, &x);
+    memory::Arena {
+        ok: r.ok,
+        n: r.n,
+        h: r.h + 2,
+    }
+}
+
+// The relation of this level whose every walk ends at c.
+fn constant(
+    nodes: &mut [u32],
+    work: &mut [u32],
+    s: memory::Arena,
+    level: u8,
+    c: u32,
+) -> memory::Arena
+    ensures { λ r. ⌜ Performs rel (constant rel c level) s (now (nodes .entry)) (now (nodes .exit)) (now (work .entry)) (now (work .exit)) r ⌝ }
+{
+    if level == 0 {
+        return memory::place::give(s, c);
+    }
+    let z = constant(nodes, work, s, level - 1, c);
+    mk(nodes, work, z, z.h, z.h, z.h, z.h)
+}
+
+pub fn zero_at_depth(
+    nodes: &mut [u32],
+    work: &mut [u32],
+    s: memory::Arena,
+    level: u8,
+) -> memory::Arena
+    ensures { λ r. ⌜ Performs rel (constant rel 0 level) s (now (nodes .entry)) (now (nodes .exit)) (now (work .entry)) (now (work .exit)) r ⌝ }
+{
+    constant(nodes, work, s, level, 0)
+}
+
+// The identity of this level.
+pub fn one_at_depth(
+    nodes: &mut [u32],
+    work: &mut [u32],
+    s: memory::Arena,
+    level: u8,
+) -> memory::Arena
+    ensures { λ r. ⌜ Performs rel (identity-at-depth level) s (now (nodes .entry)) (now (nodes .exit)) (now (work .entry)) (now (work .exit)) r ⌝ }
+{
+    if level == 0 {
+        return memory::place::give(s, 1);
+    }
+    let one = one_at_depth(nodes, work, s, level - 1);
+    let zero = zero_at_depth(nodes, work, one, level - 1);
+    mk(nodes, work, zero, one.h, zero.h, zero.h, one.h)
+}
+
+pub fn top_at_depth(
+    nodes: &mut [u32],
+    work: &mut [u32],
+    s: memory::Arena,
+    level: u8,
+) -> memory::Arena
+    ensures { λ r. ⌜ Performs rel (constant rel 1 level) s (now (nodes .entry)) (now (nodes .exit)) (now (work .entry)) (now (work .exit)) r ⌝ }
+{
+    constant(nodes, work, s, level, 1)
+}
+
+// What the memo holds on an operation on a and b, the lesser first.
+fn ordered(work: &[u32], op: u32, level: u8, a: u32, b: u32) -> memory::Found
+    requires { ⌜ (0 < op) × (op < 16777216) ⌝ }
+    ensures { λ r. ⌜ ((node : ℕ → ℕ → Prog) (m : List ℕ) → ((x y : ℕ) → node x y ≡ memo-program op level x y)
+        → Answers rel (ask (less b a) (node b a) (node a b)) node m (now (work .entry)) r) ⌝ }
+{
+    if b < a {
+        return memory::memo::recall(work, op, level, b, a);
+    }
+    memory::memo::recall(work, op, level, a, b)
+}
+
+// What the properties of two relations, or the memo, know of their union or intersection: x where a is empty or b full, y where b is empty or a full.
+fn lattice_tests(
+    nodes: &[u32],
+    work: &[u32],
+    op: u32,
+    level: u8,
+    a: u32,
+    b: u32,
+    x: u32,
+    y: u32,
+) -> memory::Found
+    requires { ⌜ (0 < op) × (op < 16777216) ⌝ }
+    ensures { λ r. ⌜ ((node : ℕ → ℕ → Prog) → ((i j : ℕ) → node i j ≡ memo-program op level i j)
+        → Answers rel (lattice-tests level a b x y node) node (now (nodes .entry)) (now (work .entry)) r) ⌝ }
+{
+    let pa = memory::words::properties(nodes, work, 4, level, a);
+    let pb = memory::words::properties(nodes, work, 4, level, b);
+    if pa.empty {
+        return memory::Found::Answer(x);
+    }
+    if pb.universal {
+        return memory::Found::Answer(x);
+    }
+    if pb.empty {
+        return memory::Found::Answer(y);
+    }
+    if pa.universal {
+        return memory::Found::Answer(y);
+    }
+    ordered(work, op, level, a, b)
+}
+
+pub fn union(
+    nodes: &mut [u32],
+    work: &mut [u32],
+    s: memory::Arena,
+    level: u8,
+    a: u32,
+    b: u32,
+) -> memory::Arena
+    ensures { λ r. ⌜ Performs rel (union rel level a b) s (now (nodes .entry)) (now (nodes .exit)) (now (work .entry)) (now (work .exit)) r ⌝ }
+{
+    if !s.ok {
+        return s;
+    }
+    if a == b {
+        return memory::place::give(s, a);
+    }
+    let found = lattice_tests(nodes, work, UNION, level, a, b, b, a);
+    match found {
+        memory::Found::Answer(h) => memory::place::give(s, h),
+        memory::Found::Operands(x, y) => {
+            if level == 0 {
+                return s;
+            }
+            let p = get(nodes, x);
+            let q = get(nodes, y);
+            let below = level - 1;
+            let r00 = union(nodes, work, s, below, p.x00, q.x00);
+            let r01 = union(nodes, work, r00, below, p.x01, q.x01);
+            let r10 = union(nodes, work, r01, below, p.x10, q.x10);
+            let r11 = union(nodes, work, r10, below, p.x11, q.x11);
+            let r = mk(nodes, work, r11, r00.h, r01.h, r10.h, r11.h);
+            memory::memo::remember(work, r, UNION, level, x, y)
+        }
+    }
+}
+
+pub fn intersect(
+    nodes: &mut [u32],
+    work: &mut [u32],
+    s: memory::Arena,
+    level: u8,
+    a: u32,
+    b: u32,
+) -> memory::Arena
+    ensures { λ r. ⌜ Performs rel (intersect rel level a b) s (now (nodes .entry)) (now (nodes .exit)) (now (work .entry)) (now (work .exit)) r ⌝ }
+{
+    if !s.ok {
+        return s;
+    }
+    if a == b {
+        return memory::place::give(s, a);
+    }
+    let found = lattice_tests(nodes, work, INTERSECT, level, a, b, a, b);
+    match found {
+        memory::Found::Answer(h) => memory::place::give(s, h),
+        memory::Found::Operands(x, y) => {
+            if level == 0 {
+                return s;
+            }
+            let p = get(nodes, x);
+            let q = get(nodes, y);
+            let below = level - 1;
+            let r00 = intersect(nodes, work, s, below, p.x00, q.x00);
+            let r01 = intersect(nodes, work, r00, below, p.x01, q.x01);
+            let r10 = intersect(nodes, work, r01, below, p.x10, q.x10);
+            let r11 = intersect(nodes, work, r10, below, p.x11, q.x11);
+            let r = mk(nodes, work, r11, r00.h, r01.h, r10.h, r11.h);
+            memory::memo::remember(work, r, INTERSECT, level, x, y)
+        }
+    }
+}
+
+// What was found, where no other operation answers.
+fn way_of(found: memory::Found) -> Way
+    ensures { λ r. ⌜ r ≡ way-of found ⌝ }
+{
+    match found {
+        memory::Found::Answer(h) => Way::Answer(h),
+        memory::Found::Operands(x, y) => Way::Operands(x, y),
+    }
+}
+
+// What the properties of two relations, or the memo, know of their symmetric difference; the other operation is `complement`.
+fn xor_tests(nodes: &[u32], work: &[u32], level: u8, a: u32, b: u32) -> Way
+    ensures { λ r. ⌜ Goes (xor-tests rel level a b (node2 (xor-op rel) level)) (complement rel level) (node2 (xor-op rel) level)
+        (now (nodes .entry)) (now (work .entry)) r ⌝ }
+{
+    let pa = memory::words::properties(nodes, work, 4, level, a);
+    let pb = memory::words::properties(nodes, work, 4, level, b);
+    if pa.empty {
+        return Way::Answer(b);
+    }
+    if pb.empty {
+        return Way::Answer(a);
+    }
+    if pa.universal {
+        return Way::Other(b);
+    }
+    if pb.universal {
+        return Way::Other(a);
+    }
+    way_of(ordered(work, XOR, level, a, b))
+}
+
+pub fn xor(
+    nodes: &mut [u32],
+    work: &mut [u32],
+    s: memory::Arena,
+    level: u8,
+    a: u32,
+    b: u32,
+) -> memory::Arena
+    ensures { λ r. ⌜ Performs rel (xor rel level a b) s (now (nodes .entry)) (now (nodes .exit)) (now (work .entry)) (now (work .exit)) r ⌝ }
+{
+    if !s.ok {
+        return s;
+    }
+    if a == b {
+        return zero_at_depth(nodes, work, s, level);
+    }
+    let found = xor_tests(nodes, work, level, a, b);
+    match found {
+        Way::Answer(h) => memory::place::give(s, h),
+        Way::Other(x) => complement(nodes, work, s, level, x),
+        Way::Operands(x, y) => {
+            if level == 0 {
+                return s;
+            }
+            let p = get(nodes, x);
+            let q = get(nodes, y);
+            let below = level - 1;
+            let r00 = xor(nodes, work, s, below, p.x00, q.x00);
+            let r01 = xor(nodes, work, r00, below, p.x01, q.x01);
+            let r10 = xor(nodes, work, r01, below, p.x10, q.x10);
+            let r11 = xor(nodes, work, r10, below, p.x11, q.x11);
+            let r = mk(nodes, work, r11, r00.h, r01.h, r10.h, r11.h);
+            memory::memo::remember(work, r, XOR, level, x, y)
+        }
+    }
+}
+
+// What the properties of two relations, or the memo, know of their difference; the other operation is `complement`.
+fn difference_tests(nodes: &[u32], work: &[u32], level: u8, a: u32, b: u32) -> Way
+    ensures { λ r. ⌜ Goes (difference-tests level a b (node2 difference-op level)) (complement rel level) (node2 difference-op level)
+        (now (nodes .entry)) (now (work .entry)) r ⌝ }
+{
+    let pa = memory::words::properties(nodes, work, 4, level, a);
+    let pb = memory::words::properties(nodes, work, 4, level, b);
+    if pa.empty {
+        return Way::Answer(a);
+    }
+    if pb.empty {
+        return Way::Answer(a);
+    }
+    if pa.universal {
+        return Way::Other(b);
+    }
+    way_of(memory::memo::recall(work, DIFFERENCE, level, a, b))
+}
+
+pub fn difference(
+    nodes: &mut [u32],
+    work: &mut [u32],
+    s: memory::Arena,
+    level: u8,
+    a: u32,
+    b: u32,
+) -> memory::Arena
+    ensures { λ r. ⌜ Performs rel (difference rel level a b) s (now (nodes .entry)) (now (nodes .exit)) (now (work .entry)) (now (work .exit)) r ⌝ }
+{
+    if !s.ok {
+        return s;
+    }
+    if a == b {
+        return zero_at_depth(nodes, work, s, level);
+    }
+    let found = difference_tests(nodes, work, level, a, b);
+    match found {
+        Way::Answer(h) => memory::place::give(s, h),
+        Way::Other(x) => complement(nodes, work, s, level, x),
+        Way::Operands(x, y) => {
+            if level == 0 {
+                return s;
+            }
+            let p = get(nodes, x);
+            let q = get(nodes, y);
+            let below = level - 1;
+            let r00 = difference(nodes, work, s, below, p.x00, q.x00);
+            let r01 = difference(nodes, work, r00, below, p.x01, q.x01);
+            let r10 = difference(nodes, work, r01, below, p.x10, q.x10);
+            let r11 = difference(nodes, work, r10, below, p.x11, q.x11);
+            let r = mk(nodes, work, r11, r00.h, r01.h, r10.h, r11.h);
+            memory::memo::remember(work, r, DIFFERENCE, level, x, y)
+        }
+    }
+}
+
+pub fn complement(
+    nodes: &mut [u32],
+    work: &mut [u32],
+    s: memory::Arena,
+    level: u8,
+    a: u32,
+) -> memory::Arena
+    ensures { λ r. ⌜ Performs rel (complement rel level a) s (now (nodes .entry)) (now (nodes .exit)) (now (work .entry)) (now (work .exit)) r ⌝ }
+{
+    if !s.ok {
+        return s;
+    }
+    if a < 2 {
+        return memory::place::give(s, 1 - a);
+    }
+    let found = memory::memo::recall(work, COMPLEMENT, level, a, 0);
+    if let memory::Found::Answer(h) = found {
+        return memory::place::give(s, h);
+    }
+    if level == 0 {
+        return s;
+    }
+    let p = get(nodes, a);
+    let below = level - 1;
+    let r00 = complement(nodes, work, s, below, p.x00);
+    let r01 = complement(nodes, work, r00, below, p.x01);
+    let r10 = complement(nodes, work, r01, below, p.x10);
+    let r11 = complement(nodes, work, r10, below, p.x11);
+    let r = mk(nodes, work, r11, r00.h, r01.h, r10.h, r11.h);
+    memory::memo::remember(work, r, COMPLEMENT, level, a, 0)
+}
+
+// Whether a relation of this level is empty, 1 or 0.
+pub fn is_zero(nodes: &[u32], work: &[u32], s: memory::Arena, level: u8, a: u32) -> memory::Arena
+    ensures { λ r. ⌜ Performs rel (is-zero rel level a) s (now (nodes .entry)) (now (nodes .entry)) (now (work .entry)) (now (work .entry)) r ⌝ }
+{
+    if !s.ok {
+        return s;
+    }
+    let p = memory::words::properties(nodes, work, 4, level, a);
+    if p.empty {
+        return memory::place::give(s, 1);
+    }
+    memory::place::give(s, 0)
+}
