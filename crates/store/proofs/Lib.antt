@@ -12,3 +12,5 @@ pub mod Outcomes
 pub mod Meant
 pub mod Running
 pub mod SetSteps
+pub mod Creating
+pub mod Filling

@@ -37,7 +37,7 @@ abbrev pub recount : Kind → List ℕ → ℕ → List ℕ
 recount set m n = n ∷ []
 recount rel m n = getD m 0 0 ∷ n ∷ []
 
-put-count : (K : Kind) (m b : List ℕ) (n : ℕ) → head K ≤ length m → put (take (head K) m ++ b) (head K - 1) n ≡ recount K m n ++ b
+pub put-count : (K : Kind) (m b : List ℕ) (n : ℕ) → head K ≤ length m → put (take (head K) m ++ b) (head K - 1) n ≡ recount K m n ++ b
 put-count set [] b n h = absurd (omega arith)
 put-count set (x ∷ m) b n h = refl
 put-count rel [] b n h = absurd (omega arith)
@@ -137,6 +137,13 @@ module _ (v : ℕ → Store → Verdict) (M : Memories) where
     unfolding concludes
     given a e = sym (judged (gives a) e)
 
+-- A PROGRAM, where it fits
+pub run-fits : (p : Prog) (M : Memories) → IsStore M → fits-places (set-places M) (rel-places M) (run p (decode M) .store) ≡ true
+    → on-store (λ k S. runs p) M ≡ told (Handle (run p (decode M) .value)) (encode (fields M) (run p (decode M) .store) M)
+unfolding concludes
+run-fits p M s f = judged (λ k S. runs p) M s (runs p) refl
+    ∙ ap (λ b. pick b (told (Handle (run p (decode M) .value)) (encode (fields M) (run p (decode M) .store) M)) (told (Declined UsedUp) M)) f
+
 -- A PROGRAM that ran on the nodes of one kind
 pub decoded : (K : Kind) (M : Memories) → plain K (decode M) (body K (memory K M)) (count K (memory K M)) ≡ decode M
 unfolding decode
@@ -153,7 +160,7 @@ fits-one : (K : Kind) (M : Memories) (N : Nodes) → IsStore M → leb (length N
 fits-one set M N s e = rw (e, le-leb _ _ (nodes-few rel M s))
 fits-one rel M N s e = rw (e, le-leb _ _ (nodes-few set M s))
 
-and-false : (b c : Bool) → c ≡ false → (b && c) ≡ false
+pub and-false : (b c : Bool) → c ≡ false → (b && c) ≡ false
 and-false true c e = e
 and-false false c e = refl
 

@@ -80,7 +80,7 @@ module _ (K : Kind) (M : Memories) (w : List ℕ) (Y : Ready K M w) (n k : ℕ) 
     check-low l e = let h = subst (Low k) e (C .low) in let f = Y .store .few in omega (arith, ek)
 
   module _ (p q : Prog) (b w′ : List ℕ) (r : Arena) (eq : q ≡ p) (s : Safe p (decode M)) (P : Performs K q (arena true n 0) part b w w′ r) where
-    runs-here : Runs K p (decode M) (arena true (count K m) 0) (body K m) b w w′ r
+    pub runs-here : Runs K p (decode M) (arena true (count K m) 0) (body K m) b w w′ r
     runs-here =
         subst (λ n. Runs K p (decode M) (arena true n 0) (body K m) b w w′ r) en
         (subst (λ x. Runs K p (decode M) (arena true n 0) x b w w′ r) (whole-part (head K) m)

@@ -76,7 +76,7 @@ whole : (M : Memories) (r : Bool) → HeadsFit M → Tests r (WellFormed (fields
 whole M true H t = sym (decided-true (store-says M) (record { few = H .few; room = H .room; formed = t .so refl }))
 whole M false H t = sym (decided-false (store-says M) (λ s. t .not refl (s .formed)))
 
-still-clear : (n : ℕ) (w : List ℕ) → w ≡ replicate n 0 → w ≡ replicate (length w) 0
+pub still-clear : (n : ℕ) (w : List ℕ) → w ≡ replicate n 0 → w ≡ replicate (length w) 0
 still-clear n w e = e ∙ ap (λ n. replicate n 0) (sym (ap length e ∙ length-replicate n 0))
 
 module _ (M : Memories) (H : HeadsFit M) (w w₁ w′ : List ℕ) (clear : w₁ ≡ replicate (length w) 0) where

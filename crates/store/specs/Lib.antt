@@ -7,3 +7,4 @@ pub mod Meanings
 pub mod Judging
 pub mod Checking
 pub mod Finishing
+pub mod Creating

@@ -3,6 +3,7 @@ ghost use mathlib.Core.Path.{_≡_};
 ghost use Prim.Native.Nat.{_<_};
 ghost use Rattle.store.specs.Answers.{number};
 
+pub mod creation;
 pub mod finish;
 pub mod judge;
 pub mod operands;

@@ -1,20 +1,13 @@
 -- `finish` writes the count, or clears the places that were written.
-use mathlib.Core.Path.{_≡_, refl, sym, ap, _∙_}
-use mathlib.Core.List.{List}
-use Prim.Native.Nat.{ℕ, _-_, _*_, _≤_}
+use mathlib.Core.Path.{refl, sym, _∙_}
+use Prim.Native.Nat.{_*_, _≤_}
 use native.Mathlib.Nat.{mul-le-mul-left}
 use native.Mathlib.Omega.{arith}
-use lib.ListN.{length, replicate}
 use borrow.Author.Needs.{needs}
-use borrow.Rule.Slice.PartMut.{midOf, putMid, mid-len}
 use Rattle.memory.proofs.Steps.{false≢true}
-use Rattle.store.specs.Finishing.{cleared}
+use Rattle.store.proofs.Writing.{cleared-by}
 use Rattle.store.proofs.finish.finish.Statement.{statement}
 use Rattle.store.proofs.finish.finish.Tie as tie
-
--- what `clear` leaves of a part
-cleared-by : (s e : ℕ) (m z : List ℕ) → e ≤ length m → z ≡ replicate (length (midOf s (e - s) m)) 0 → putMid s (e - s) m z ≡ cleared s e m
-cleared-by s e m z h q = ap (λ (z : List ℕ). putMid s (e - s) m z) (q ∙ ap (λ l. replicate l 0) (mid-len s e m h))
 
 -- places that were there are before those that are written
 grown : (c : tie.Else1) → (let a = c .before .before .args in a .c * a .n ≤ a .c * a .r .n)

@@ -1,0 +1,98 @@
+-- `new` comes to its outcome for any numbers in the memories, and leaves the working memory zero.
+use mathlib.Core.Path.{refl, ap, _∙_, subst}
+use native.Mathlib.Omega.{arith}
+use lib.ListN.{length, replicate, length-set}
+use borrow.Author.Needs.{needs}
+use Rattle.store.specs.Memory.{memories}
+use Rattle.store.specs.Creating.{NewChecked}
+use Rattle.store.specs.declared.Check.the-variants.{Level}
+use Rattle.store.proofs.Creating.{begun-here, created-new}
+use Rattle.store.proofs.Whole.{still-clear}
+use Rattle.store.proofs.creation.new.Statement.{statement}
+use Rattle.store.proofs.creation.new.Tie as tie
+
+-- what `check` told, where `new` goes on
+goes : (c : tie.After-check3) → (let a = c .before .before .before .before .before .before .before .before .before .before .args in
+    NewChecked (length (a .relations .now)) (length (a .sets .now)) (a .k) (Level (c .check3 .given .0 .0)))
+goes c = subst (NewChecked _ _ _) (c .check3 .given .1) (c .before .before .check .ensures)
+
+returns : tie.Need-returns
+returns c =
+    let c3 = c .before .before .before in
+    let c6 = c3 .before .before .before in
+    let c11 = c6 .before .before .before .before .before in (
+      subst (NewChecked _ _ _) (c .before .check2 .given .1) (c3 .check .ensures) (memories (c11 .args .relations .now) (c11 .args .sets .now)) refl
+          refl,
+      c6 .clear .ensures,
+    )
+
+begin-requires : tie.Need-begin-requires
+begin-requires c κs = (omega arith, omega arith, goes (c .before .before) .2)
+
+begin-requires-2 : tie.Need-begin-requires-2
+begin-requires-2 c κs = (omega arith, omega arith, goes (c .before .before .before .before .before .before) .3)
+
+slice-write-relations : tie.Need-slice-write-relations
+slice-write-relations c =
+    let c6 = c .before .before .before .before .before .before in
+    let c9 = c6 .before .before .before in
+    let h = goes (c9) .2 in omega (arith, h, c6 .begin .kept .0)
+
+narrow-requires : tie.Need-narrow-requires
+narrow-requires c κs =
+    let c12 = c .before .before .before .before .before .before .before .before .before .before .before .before in
+    let t = goes (c12) in omega (arith, t .0, t .1)
+
+fill-requires : tie.Need-fill-requires
+fill-requires c κs =
+    let c6 = c .before .before .before .before .before .before in
+    let c10 = c6 .before .before .before .before in
+    let c13 = c10 .before .before .before in
+    let c18 = c13 .before .before .before .before .before in
+    let c23 = c18 .before .before .before .before .before in
+    let a = c23 .args in begun-here (memories (a .relations .now) (a .sets .now)) (a .k) _ _ (goes (c13)) (c .narrow .ensures) _ _
+    (c10 .begin .ensures) (c6 .begin2 .ensures) _ (still-clear (length (a .work .now)) _ (c18 .clear .ensures))
+
+same-length-2 : tie.Need-same-length-2
+same-length-2 c =
+    let c10 = c .before .before .before .before .before .before .before .before .before .before in
+    let c21 = c10 .before .before .before .before .before .before .before .before .before .before .before in
+    let c24 = c21 .before .before .before in
+    c10 .fill .kept .0 ∙ length-set (c21 .begin .last .0) 0 (c24 .check3 .given .0 .0) ∙ c21 .begin .kept .0
+
+returns-2 : tie.Need-returns-2
+returns-2 c =
+    let c10 = c .before .before .before .before .before .before .before .before .before .before in
+    let c11 = c10 .before in
+    let c17 = c11 .before .before .before .before .before .before in
+    let c21 = c17 .before .before .before .before in
+    let c24 = c21 .before .before .before in
+    let c29 = c24 .before .before .before .before .before in
+    let c34 = c29 .before .before .before .before .before in
+    let a = c34 .args in (
+      created-new (memories (a .relations .now) (a .sets .now)) (a .k) _ _ (goes (c24)) (c11 .narrow .ensures) _ _
+          (c21 .begin .ensures) (c17 .begin2 .ensures) _ _ (c10 .fill .ensures),
+      c .before .before .clear2 .ensures ∙ ap (λ n. replicate n 0)
+          (c10 .fill .kept .1 .1 .0 ∙ c29 .clear .kept .0),
+    )
+
+pub new-spec : {M : Type 1} → statement M
+new-spec =
+    tie.close
+    (tie.spec
+    (λ c κs. search needs)
+    (λ c κs. search needs)
+    (λ c. search needs)
+    (λ c. search needs)
+    begin-requires
+    begin-requires-2
+    slice-write-relations
+    narrow-requires
+    fill-requires
+    (λ c κs. search needs)
+    (λ c. search needs)
+    returns
+    same-length-2
+    (λ c. search needs)
+    (λ c. search needs)
+    returns-2)
