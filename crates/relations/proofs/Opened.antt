@@ -14,16 +14,6 @@ use Rattle.memory.specs.Memo.{memo-program}
 use Rattle.memory.proofs.Steps.{Stands, begin, by, yes, no, same-says}
 use Rattle.relations.specs.Ways.{lattice-tests, difference-tests}
 
-pub constant-zero : (c l : ℕ) → l ≡ 0 → constant rel c l ≡ ret c
-unfolding constant
-constant-zero c zero e = refl
-constant-zero c (suc l) e = absurd (let z : ⊥ = omega arith in z)
-
-pub constant-step : (c l : ℕ) → (l ≡ 0 → ⊥) → constant rel c l ≡ (constant rel c (l - 1) >>= λ z. mk rel (z ∷ z ∷ z ∷ z ∷ []))
-unfolding constant
-constant-step c zero h = absurd (h refl)
-constant-step c (suc l) h = let e : l ≡ suc l - 1 = omega arith in ap (λ n. constant rel c n >>= λ z. mk rel (z ∷ z ∷ z ∷ z ∷ [])) e
-
 pub identity-zero : (l : ℕ) → l ≡ 0 → identity-at-depth l ≡ ret 1
 unfolding identity-at-depth
 identity-zero zero e = refl

@@ -135,7 +135,8 @@ fn star_node(
     c: u32,
     d_star: u32,
 ) -> memory::Arena
-    ensures { λ r. ⌜ Performs rel (star-node level «res_a» «bd_star» c «d_star») s (now (nodes .entry)) (now (nodes .exit)) (now (work .entry)) (now (work .exit)) r ⌝ }
+    ensures { λ r. ⌜ Performs rel (star-node level «res_a» «bd_star» c «d_star») s
+        (now (nodes .entry)) (now (nodes .exit)) (now (work .entry)) (now (work .exit)) r ⌝ }
 {
     let res_b = sequence(nodes, work, s, level, res_a, bd_star);
     let c_res_a = sequence(nodes, work, res_b, level, c, res_a);
