@@ -1,13 +1,14 @@
 -- The constants and the identity of a level: built from level 0 up, they mean what their names say.
-use mathlib.Core.Path.{_≡_, refl}
+use mathlib.Core.Path.{_≡_, refl, ap}
 use mathlib.Core.Logic.{_↔_}
 use mathlib.Core.List.{List}
-use Prim.Native.Nat.{ℕ, zero, suc, _<_, _≤_}
+use Prim.Native.Nat.{ℕ, zero, suc, _-_, _<_, _≤_}
 use native.Mathlib.Omega.{arith}
 use lib.ListN.{replicate, length-replicate, getD-replicate}
 use Rattle.nodes.specs.Meaning.{Sem, Den}
 use Rattle.nodes.specs.Operations.{constant, zero-at-depth}
 use Rattle.nodes.specs.Packets.{Digits, none, more, walk}
+use Rattle.nodes.specs.Programs.{ret, mk, _>>=_}
 use Rattle.nodes.specs.Store.{Kind, arity, Store}
 use Rattle.nodes.specs.WellFormed.{WellFormed}
 use Rattle.nodes.proofs.Rules.{Does, den-iff, Node, ret-does, post-does, bind-does, mk-does}
@@ -34,3 +35,14 @@ module _ {k : ℕ} where
   pub full-does : {φ : Sem} {S : Store} (K : Kind) (l : ℕ) → l ≤ k → WellFormed k S → ((ds : List ℕ) → Digits K l ds → φ ds)
       → Does k S (constant K 1 l) (Den K l φ)
   full-does K l i F a = post-does (λ S h. den-iff (λ ds D. (λ e. a ds D, λ p. refl))) (constant-does K 1 l (omega arith) i F)
+
+-- OPENED one step
+pub constant-zero : (K : Kind) (c l : ℕ) → l ≡ 0 → constant K c l ≡ ret c
+unfolding constant
+constant-zero K c zero e = refl
+constant-zero K c (suc l) e = absurd (let z : ⊥ = omega arith in z)
+
+pub constant-step : (K : Kind) (c l : ℕ) → (l ≡ 0 → ⊥) → constant K c l ≡ (constant K c (l - 1) >>= λ z. mk K (replicate (arity K) z))
+unfolding constant
+constant-step K c zero h = absurd (h refl)
+constant-step K c (suc l) h = let e : l ≡ suc l - 1 = omega arith in ap (λ n. constant K c n >>= λ z. mk K (replicate (arity K) z)) e

@@ -1,6 +1,6 @@
 -- An operation on the children of a node: what is left when they are read, and what four calls, `mk` and the memo do.
 use mathlib.Core.Path.{_≡_}
-use mathlib.Core.List.{List, [], _∷_}
+use mathlib.Core.List.{List}
 use mathlib.Core.Bool.{true}
 use Prim.Native.Nat.{ℕ, _-_, _<_}
 use Rattle.nodes.specs.Programs.{Prog}

@@ -1,9 +1,8 @@
 -- A relation's node is stored as it is given, and its handle has no sign.
-use mathlib.Core.Path.{refl}
+use mathlib.Core.Path.{_≡_, refl}
 use mathlib.Core.List.{List}
 use Prim.Native.Nat.{ℕ, _+_}
 use lib.ListN.{length}
-use mathlib.Core.Path.{_≡_}
 use Rattle.nodes.specs.Programs.{mk}
 use Rattle.nodes.specs.Store.{rel}
 use Rattle.memory.specs.Arena.{arena, Performs, JoinsAs}

@@ -14,16 +14,6 @@ use Rattle.memory.specs.Memo.{memo-program}
 use Rattle.memory.proofs.Steps.{Stands, begin, by, yes, no, same-says}
 use Rattle.relations.specs.Ways.{lattice-tests, difference-tests}
 
-pub constant-zero : (c l : ℕ) → l ≡ 0 → constant rel c l ≡ ret c
-unfolding constant
-constant-zero c zero e = refl
-constant-zero c (suc l) e = absurd (let z : ⊥ = omega arith in z)
-
-pub constant-step : (c l : ℕ) → (l ≡ 0 → ⊥) → constant rel c l ≡ (constant rel c (l - 1) >>= λ z. mk rel (z ∷ z ∷ z ∷ z ∷ []))
-unfolding constant
-constant-step c zero h = absurd (h refl)
-constant-step c (suc l) h = let e : l ≡ suc l - 1 = omega arith in ap (λ n. constant rel c n >>= λ z. mk rel (z ∷ z ∷ z ∷ z ∷ [])) e
-
 pub identity-zero : (l : ℕ) → l ≡ 0 → identity-at-depth l ≡ ret 1
 unfolding identity-at-depth
 identity-zero zero e = refl
@@ -36,7 +26,7 @@ identity-step zero h = absurd (h refl)
 identity-step (suc l) h = let e : l ≡ suc l - 1 = omega arith in
     ap (λ n. identity-at-depth n >>= λ one. constant rel 0 n >>= λ z. mk rel (one ∷ z ∷ z ∷ one ∷ [])) e
 
--- OPERATIONS on two relations: the test on equal operands, then the others
+-- OPERATIONS on two relations, and the numbers of all
 module _ (l a b : ℕ) where
   pub union-is : union rel l a b ≡ ask (same a b) (ret a) (lattice-tests l a b b a (node2 (union-op rel) l))
   unfolding union op2
@@ -54,6 +44,10 @@ module _ (l a b : ℕ) where
   unfolding difference op2
   difference-is = refl
 
+  pub sequence-is : sequence l a b ≡ sequence-op .short l a b (node2 sequence-op l)
+  unfolding sequence op2
+  sequence-is = refl
+
   pub union-memo : node2 (union-op rel) l a b ≡ memo-program 4 l a b
   unfolding memo-program
   union-memo = refl
@@ -70,17 +64,14 @@ module _ (l a b : ℕ) where
   unfolding memo-program
   difference-memo = refl
 
-  pub complement-memo : node1 complement-op l a ≡ memo-program 8 l a b
-  unfolding memo-program
-  complement-memo = refl
-
-  pub sequence-is : sequence l a b ≡ sequence-op .short l a b (node2 sequence-op l)
-  unfolding sequence op2
-  sequence-is = refl
-
   pub sequence-memo : node2 sequence-op l a b ≡ memo-program 9 l a b
   unfolding memo-program
   sequence-memo = refl
+
+  -- the memo's second operand says nothing of an operation on one
+  pub complement-memo : node1 complement-op l a ≡ memo-program 8 l a b
+  unfolding memo-program
+  complement-memo = refl
 
   pub star-memo : node1 star-op l a ≡ memo-program 10 l a b
   unfolding memo-program
@@ -90,6 +81,7 @@ module _ (l a b : ℕ) where
   unfolding memo-program
   flip-memo = refl
 
+-- the test on equal operands answers, or not
 module _ {p q q′ : Prog} {a b : ℕ} {m w : List ℕ} (e : p ≡ ask (same a b) q q′) where
   pub equal : a ≡ b → Stands rel p q m w
   equal h = yes (by begin e) (same-says (eq-eqb a b h))

@@ -1,13 +1,12 @@
 -- What shortcuts leave to do: from the tests made to what was found, and from there to what is left.
-use mathlib.Core.Path.{_≡_, refl, sym, _∙_, subst}
+use mathlib.Core.Path.{_≡_, sym, _∙_, subst}
 use mathlib.Core.List.{List}
-use Prim.Native.Nat.{ℕ, _≤_}
+use Prim.Native.Nat.{ℕ}
 use Rattle.nodes.specs.Programs.{Prog, ret, run}
 use Rattle.nodes.specs.Safety.{Safe}
 use Rattle.nodes.specs.Store.{rel, Store}
 use Rattle.memory.specs.Arena.{Left, answered, Answers}
-use Rattle.memory.specs.Rows.{places, plain}
-use Rattle.memory.specs.Working.{Right}
+use Rattle.memory.specs.Rows.{plain}
 use Rattle.memory.proofs.Steps.{Stands}
 use Rattle.memory.specs.declared.Found.{Found}
 use Rattle.memory.specs.declared.Found.the-variants as found

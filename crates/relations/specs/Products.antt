@@ -2,7 +2,7 @@
 use mathlib.Core.List.{[], _∷_}
 use Prim.Native.Nat.{ℕ}
 use Rattle.nodes.specs.Store.{rel}
-use Rattle.nodes.specs.Programs.{Prog, mk, bind, _>>=_}
+use Rattle.nodes.specs.Programs.{Prog, mk, _>>=_}
 use Rattle.nodes.specs.Operations.{union}
 use Rattle.nodes.specs.Relations.{sequence}
 

@@ -34,7 +34,7 @@ pub struct SPPnode {
 }
 
 // What shortcuts know where another operation may answer: the answer, its operand, or on which operands the operation goes on.
-pub enum Way {
+enum Way {
     Answer(u32),
     Other(u32),
     Operands(u32, u32),

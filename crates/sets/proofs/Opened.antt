@@ -15,16 +15,6 @@ use Rattle.nodes.proofs.Recursion.{node2-open}
 use Rattle.memory.specs.Memo.{memo-program}
 use Rattle.memory.proofs.Steps.{Stands, begin, by, no, same-says}
 
-pub constant-zero : (c l : ℕ) → l ≡ 0 → constant set c l ≡ ret c
-unfolding constant
-constant-zero c zero e = refl
-constant-zero c (suc l) e = absurd (let z : ⊥ = omega arith in z)
-
-pub constant-step : (c l : ℕ) → (l ≡ 0 → ⊥) → constant set c l ≡ (constant set c (l - 1) >>= λ z. mk set (z ∷ z ∷ []))
-unfolding constant
-constant-step c zero h = absurd (h refl)
-constant-step c (suc l) h = let e : l ≡ suc l - 1 = omega arith in ap (λ n. constant set c n >>= λ z. mk set (z ∷ z ∷ [])) e
-
 -- UNION
 module _ (l a b : ℕ) where
   pub union-is : union set l a b ≡

@@ -5,7 +5,6 @@ use borrow.Fn.PlainCycle.{Measures, is, falls, and}
 use borrow.Fn.Kinds.{In}
 use borrow.Author.Needs.{needs}
 use borrow.Author.Tests.{not-true, not-false}
-use Rattle.nodes.specs.Store.{rel}
 use Rattle.nodes.specs.Operations.{difference-op, difference as difference-program}
 use Rattle.nodes.proofs.Recursion.{node2-zero}
 use Rattle.memory.proofs.Steps.{by, further, performs-stuck, called, given, impossible}

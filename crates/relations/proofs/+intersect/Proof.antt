@@ -5,7 +5,6 @@ use borrow.Fn.PlainCycle.{Measures, is, falls, and}
 use borrow.Author.Needs.{needs}
 use borrow.Fn.Kinds.{In}
 use borrow.Author.Tests.{not-true, not-false}
-use Rattle.nodes.specs.Store.{rel}
 use Rattle.nodes.specs.Recursion.{node2}
 use Rattle.nodes.specs.Operations.{intersect-op, intersect as intersect-program}
 use Rattle.nodes.proofs.Recursion.{node2-zero}

@@ -1,6 +1,5 @@
 -- `one_at_depth` runs its program; the measure is the level.
 use Prim.Native.Nat.{ℕ, _<_}
-use native.Mathlib.Omega.{arith}
 use borrow.Fn.PlainCycle.{Measures, is, falls, and}
 use borrow.Author.Needs.{needs}
 use borrow.Fn.Kinds.{In}

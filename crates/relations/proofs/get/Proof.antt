@@ -1,5 +1,4 @@
 -- `get` reads the four children.
-use native.Mathlib.Omega.{arith}
 use borrow.Author.Needs.{needs}
 use Rattle.memory.proofs.Looking.{looks-four}
 use Rattle.relations.proofs.get.Statement.{statement}

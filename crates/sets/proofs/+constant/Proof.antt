@@ -5,8 +5,9 @@ use native.Mathlib.Omega.{arith}
 use borrow.Author.Needs.{needs}
 use borrow.Fn.Kinds.{In}
 use borrow.Fn.PlainCycle.{Measures, is, falls, and}
+use Rattle.nodes.specs.Store.{set}
+use Rattle.nodes.proofs.Constants.{constant-zero, constant-step}
 use Rattle.memory.proofs.Steps.{performs-by, performs-then, performs-ret}
-use Rattle.sets.proofs.Opened.{constant-zero, constant-step}
 use Rattle.sets.proofs.constant.Reads as constant
 use Rattle.sets.proofs.constant.Kinds as constant-kinds
 use Rattle.sets.proofs.+constant.Lts-constant as constant-lts
@@ -31,7 +32,7 @@ pub +constant-spec : {M : Type 1} → statement M
 +constant-spec = close μ-constant
     (λ t. constant-lts.spec (calls t) (constant-at t) constant.Post
     (λ c κs. search needs)
-    (λ c. performs-by (constant-zero _ _ (c .before .if1 .taken)) (performs-ret _ (c .give .ensures)))
+    (λ c. performs-by (constant-zero set _ _ (c .before .if1 .taken)) (performs-ret _ (c .give .ensures)))
     (λ c. search needs)
     (λ c κs. search needs)
     (λ c κs. search needs)
@@ -41,4 +42,4 @@ pub +constant-spec : {M : Type 1} → statement M
     let c4 = c .before .before .before .before in
     let c11 = c4 .before .before .before .before .before .before .before in
     let c14 = c11 .before .before .before in
-    performs-by (constant-step _ _ (c14 .if1 .left)) (performs-then (c11 .constant .ensures) (c4 .mk .ensures))))
+    performs-by (constant-step set _ _ (c14 .if1 .left)) (performs-then (c11 .constant .ensures) (c4 .mk .ensures))))

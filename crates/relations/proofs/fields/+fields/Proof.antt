@@ -1,6 +1,5 @@
 -- `fields` runs its program; the measure is the number of fields.
 use Prim.Native.Nat.{ℕ, _<_}
-use native.Mathlib.Omega.{arith}
 use borrow.Fn.PlainCycle.{Measures, is, falls, and}
 use borrow.Fn.Kinds.{In}
 use borrow.Author.Needs.{needs}
