@@ -1,7 +1,7 @@
 -- Operands and their levels: what `of-one` and `of-two` come to where a function says which handles are held, and at which level.
 use mathlib.Core.Path.{_≡_, refl, sym, ap, _∙_, subst}
 use mathlib.Core.List.{List}
-use mathlib.Core.Bool.{Bool, true, false, _||_}
+use mathlib.Core.Bool.{Bool, true, false, _||_, _&&_}
 use Prim.Native.Nat.{ℕ, _<_, _≤_}
 use native.Mathlib.Omega.{arith}
 use lib.ListN.{length}
@@ -11,8 +11,9 @@ use Rattle.nodes.specs.Store.{Kind, arity, Store, nodes, index}
 use Rattle.nodes.specs.WellFormed.{Held, WellFormed, is-held, level-of}
 use Rattle.nodes.proofs.Levels.{level-is, held-at}
 use Rattle.memory.specs.Rows.{places, plain}
+use Rattle.memory.proofs.Steps.{false≢true}
 use Rattle.store.specs.Judging.{LevelIs}
-use Rattle.store.specs.Outcome.{Verdict, declines, provided, of-one, of-two}
+use Rattle.store.specs.Outcome.{Verdict, declines, provided, of-one, of-two, of-four}
 use Rattle.store.specs.Checking.{checked}
 use Rattle.store.specs.declared.Check.{Check}
 use Rattle.store.specs.declared.Check.the-variants.{Level, No}
@@ -65,6 +66,32 @@ module _ {k : ℕ} {S : Store} (K : Kind) (F : WellFormed k S) where
 
     pub two-are : j ≡ l → of-two k K S a b v ≡ v l
     two-are n = levels ∙ provided-yes _ _ _ (eq-eqb j l n)
+
+  -- four operands: all held, all at one level
+  module _ (a b c d : ℕ) (v : ℕ → Verdict) where
+    pub four-none : (is-held K S a && (is-held K S b && (is-held K S c && is-held K S d))) ≡ false → of-four k K S a b c d v ≡ declines NotHeld
+    unfolding of-four
+    four-none e = provided-no _ _ _ e
+
+    module _ (e : (is-held K S a && (is-held K S b && (is-held K S c && is-held K S d))) ≡ true) (l : ℕ) (p : l ≡ level-of k K S a) where
+      at-levels : (x : Bool) → (eqb (level-of k K S b) l && (eqb (level-of k K S c) l && eqb (level-of k K S d) l)) ≡ x
+          → of-four k K S a b c d v ≡ provided LevelsDiffer x (v l)
+      unfolding of-four
+      at-levels x q = provided-yes _ _ _ e ∙ rw (← p, q)
+
+      pub four-apart : (eqb (level-of k K S b) l && (eqb (level-of k K S c) l && eqb (level-of k K S d) l)) ≡ false → of-four k K S a b c d v ≡ declines LevelsDiffer
+      four-apart q = at-levels false q ∙ provided-no _ _ _ refl
+
+      pub four-are : (eqb (level-of k K S b) l && (eqb (level-of k K S c) l && eqb (level-of k K S d) l)) ≡ true → of-four k K S a b c d v ≡ v l
+      four-are q = at-levels true q ∙ provided-yes _ _ _ refl
+
+-- each of four tests
+pub all-four : (a b c d : Bool) → (a && (b && (c && d))) ≡ true → (a ≡ true) × (b ≡ true) × (c ≡ true) × (d ≡ true)
+all-four true true true true e = (refl, refl, refl, refl)
+all-four true true true false e = absurd (false≢true e)
+all-four true true false d e = absurd (false≢true e)
+all-four true false c d e = absurd (false≢true e)
+all-four false b c d e = absurd (false≢true e)
 
 -- the level that `level` finds
 pub level-told : {c k h r : ℕ} (K : Kind) (B : Store) (m : List ℕ) (n : ℕ) → LevelIs m c k h r → c ≡ arity K → n ≤ places (arity K) m

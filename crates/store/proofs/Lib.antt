@@ -9,8 +9,13 @@ pub mod Reading
 pub mod Writing
 pub mod Encoding
 pub mod Outcomes
-pub mod Meant
+pub mod Walking
+pub mod Going
+pub mod SetMeant
+pub mod RelationMeant
 pub mod Running
+pub mod CallSteps
 pub mod SetSteps
+pub mod RelationSteps
 pub mod Creating
 pub mod Filling

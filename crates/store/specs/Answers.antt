@@ -5,7 +5,7 @@ use Prim.Native.Nat.{ℕ}
 use Rattle.store.specs.declared.Refusal.{Refusal}
 use Rattle.store.specs.declared.Refusal.the-variants.{NotStore, NotHeld, LevelsDiffer, NoChildren, OutOfRange, UsedUp}
 use Rattle.store.specs.declared.Answer.{Answer}
-use Rattle.store.specs.declared.Answer.the-variants.{Handle, Truth, Children, Declined}
+use Rattle.store.specs.declared.Answer.the-variants.{Handle, Truth, SetNode, RelationNode, Declined}
 
 -- 01, "What each operation declines, in order"
 abbrev pub number : Refusal → ℕ
@@ -20,7 +20,8 @@ number UsedUp = 6
 abbrev pub refusal : Answer → ℕ
 refusal (Handle h) = 0
 refusal (Truth b) = 0
-refusal (Children x0 x1) = 0
+refusal (SetNode x0 x1) = 0
+refusal (RelationNode x00 x01 x10 x11) = 0
 refusal (Declined r) = number r
 
 -- a handle, yes or no as 1 or 0, the children; nothing where the call is declined
@@ -28,5 +29,6 @@ abbrev pub values : Answer → List ℕ
 values (Handle h) = h ∷ []
 values (Truth true) = 1 ∷ []
 values (Truth false) = 0 ∷ []
-values (Children x0 x1) = x0 ∷ x1 ∷ []
+values (SetNode x0 x1) = x0 ∷ x1 ∷ []
+values (RelationNode x00 x01 x10 x11) = x00 ∷ x01 ∷ x10 ∷ x11 ∷ []
 values (Declined r) = []

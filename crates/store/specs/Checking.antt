@@ -1,25 +1,19 @@
 -- What the functions that check a call and answer it say: m is the nodes of a kind, n their count, k the number of fields.
 use mathlib.Core.Path.{_≡_}
 use mathlib.Core.List.{List}
-use Prim.Native.Nat.{ℕ, _<_, _≤_}
-use Rattle.nodes.specs.Store.{Kind, set, arity, Store}
-use Rattle.nodes.specs.Operations.{is-zero}
-use Rattle.nodes.specs.Sets.{intersects}
-use Rattle.nodes.specs.WellFormed.{WellFormed}
-use Rattle.nodes.specs.Safety.{Within, Safe}
+use mathlib.Core.Bool.{Bool, true, _&&_}
+use Prim.Native.Nat.{ℕ, _≤_}
+use lib.Dec.{eqb}
+use Rattle.nodes.specs.Store.{Kind, arity, Store}
+use Rattle.nodes.specs.WellFormed.{WellFormed, is-held, level-of}
 use Rattle.memory.specs.Rows.{places, plain}
 use Rattle.memory.specs.Working.{Right}
 use Rattle.store.specs.Memory.{Memories, memory, count, body, decode}
 use Rattle.store.specs.Valid.{IsStore}
 use Rattle.store.specs.Outcome.{Verdict, declines}
-use Rattle.store.specs.Calls.{read-answer}
 use Rattle.store.specs.declared.Answer.{Answer}
 use Rattle.store.specs.declared.Check.{Check}
 use Rattle.store.specs.declared.Check.the-variants.{Level, No}
-use Rattle.store.specs.declared.set_calls.SetCall.{SetCall}
-use Rattle.store.specs.declared.set_calls.SetCall.the-variants.{Mk, Zero, One, Union, Intersect, Xor, Difference, Test, Ifelse}
-use Rattle.store.specs.declared.set_reads.SetRead.{SetRead}
-use Rattle.store.specs.declared.set_reads.SetRead.the-variants.{Get, Complement, IsZero, Intersects}
 
 -- a call that goes on at a level, or its refusal
 abbrev pub checked : Check → (ℕ → Verdict) → Verdict
@@ -36,27 +30,15 @@ pub record Checks (K : Kind) (m : List ℕ) (n k : ℕ) (judge : Store → (ℕ 
   pub says : (B : Store) → n ≤ places (arity K) m → WellFormed k (plain K B m n) → (v : ℕ → Verdict) → judge (plain K B m n) v ≡ checked r v
   pub low : Low k r
 
--- the field that a call names is a number below 256
-abbrev pub FieldFits : SetCall → Type 0
-FieldFits (Mk a b) = Unit {0}
-FieldFits Zero = Unit {0}
-FieldFits One = Unit {0}
-FieldFits (Union a b) = Unit {0}
-FieldFits (Intersect a b) = Unit {0}
-FieldFits (Xor a b) = Unit {0}
-FieldFits (Difference a b) = Unit {0}
-FieldFits (Test f b) = f < 256
-FieldFits (Ifelse f t e) = f < 256
+-- whether three held handles are at level l
+abbrev pub AllAt : List ℕ → ℕ → ℕ → ℕ → ℕ → ℕ → ℕ → Bool → Type 0
+AllAt m c k l x y z r = (K : Kind) (B : Store) (n : ℕ) → c ≡ arity K → n ≤ places (arity K) m → WellFormed k (plain K B m n)
+    → is-held K (plain K B m n) x ≡ true → is-held K (plain K B m n) y ≡ true → is-held K (plain K B m n) z ≡ true
+    → (let S = plain K B m n in eqb (level-of k K S x) l && (eqb (level-of k K S y) l && eqb (level-of k K S z) l)) ≡ r
 
--- what a call that adds nothing reads is there
-abbrev pub ReadSafe : Store → ℕ → SetRead → Type 0
-ReadSafe S l (Get a) = Within set S a
-ReadSafe S l (Complement a) = Unit {0}
-ReadSafe S l (IsZero a) = Safe (is-zero set l a) S
-ReadSafe S l (Intersects a b) = Safe (intersects l a b) S
-
-pub record ReadsAnswer (m w : List ℕ) (n l : ℕ) (c : SetRead) (r : Answer) : Type 0 where
-  pub answer : (B : Store) → n ≤ places 2 m → Right set B w m n → ReadSafe (plain set B m n) l c → r ≡ read-answer (plain set B m n) l c
+-- r is the answer of a call that adds nothing, where what it reads is there
+pub record Answered (K : Kind) (m w : List ℕ) (n : ℕ) (safe : Store → Type 0) (answer : Store → Answer) (r : Answer) : Type 0 where
+  pub answers : (B : Store) → n ≤ places (arity K) m → Right K B w m n → safe (plain K B m n) → r ≡ answer (plain K B m n)
 
 -- memories that were judged: a store, with the working memory right for the nodes of kind K
 pub record Ready (K : Kind) (M : Memories) (w : List ℕ) : Type 0 where

@@ -2,9 +2,13 @@ pub mod Memory
 pub mod Valid
 pub mod Answers
 pub mod Outcome
+pub mod SetCalls
+pub mod RelationCalls
 pub mod Calls
 pub mod Meanings
 pub mod Judging
 pub mod Checking
+pub mod SetChecking
+pub mod RelationChecking
 pub mod Finishing
 pub mod Creating

@@ -1,5 +1,5 @@
 -- What a call comes to, in document 01's order of refusals: one definition for memories and for the plain store.
-use mathlib.Core.Bool.{Bool, true, false}
+use mathlib.Core.Bool.{Bool, true, false, _&&_}
 use Prim.Native.Nat.{ℕ}
 use lib.Dec.{eqb}
 use Rattle.nodes.specs.Store.{Kind, Store, pick}
@@ -9,7 +9,7 @@ use Rattle.nodes.specs.WellFormed.{is-held, level-of}
 use Rattle.store.specs.declared.Refusal.{Refusal}
 use Rattle.store.specs.declared.Refusal.the-variants.{NotHeld, LevelsDiffer, UsedUp}
 use Rattle.store.specs.declared.Answer.{Answer}
-use Rattle.store.specs.declared.Answer.the-variants.{Handle, Declined}
+use Rattle.store.specs.declared.Answer.the-variants.{Handle, Truth, Declined}
 
 -- what the arguments and the nodes say of a call: a refusal, an answer read off the nodes, or a program to run
 pub data Verdict : Type 0 where
@@ -29,6 +29,16 @@ of-one k K S a v = provided NotHeld (is-held K S a) (v (level-of k K S a))
 -- 01: "3 levels differ"; the call goes on with the level of both
 unfoldable pub of-two : ℕ → Kind → Store → ℕ → ℕ → (ℕ → Verdict) → Verdict
 of-two k K S a b v = of-one k K S a (λ l. of-one k K S b (λ j. provided LevelsDiffer (eqb j l) (v l)))
+
+-- the same of four operands: 2 of any comes before 3
+unfoldable pub of-four : ℕ → Kind → Store → ℕ → ℕ → ℕ → ℕ → (ℕ → Verdict) → Verdict
+of-four k K S a b c d v = (let l = level-of k K S a in
+    provided NotHeld (is-held K S a && (is-held K S b && (is-held K S c && is-held K S d)))
+    (provided LevelsDiffer (eqb (level-of k K S b) l && (eqb (level-of k K S c) l && eqb (level-of k K S d) l)) (v l)))
+
+-- the answer of a program that gives 1 or 0
+abbrev pub yes-no : Prog → Store → Answer
+yes-no p S = Truth (eqb (run p S .value) 1)
 
 -- an answer, and what the store or the memories are afterwards
 pub record Told (X : Type 0) : Type 0 where

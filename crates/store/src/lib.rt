@@ -7,6 +7,8 @@ pub mod creation;
 pub mod finish;
 pub mod judge;
 pub mod operands;
+pub mod relation_calls;
+pub mod relation_reads;
 pub mod room;
 pub mod set_calls;
 pub mod set_reads;
@@ -25,7 +27,8 @@ pub enum Refusal {
 pub enum Answer {
     Handle(u32),
     Truth(bool),
-    Children(u32, u32),
+    SetNode(u32, u32),
+    RelationNode(u32, u32, u32, u32),
     Declined(Refusal),
 }
 

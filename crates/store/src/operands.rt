@@ -1,12 +1,13 @@
 // Whether a call's operands are held, and at one level.
 ghost use mathlib.Core.Path.{_≡_};
-ghost use Prim.Native.Nat.{ℕ, _<_};
+ghost use mathlib.Core.Bool.{_&&_};
+ghost use Prim.Native.Nat.{ℕ, _^_, _<_, _≤_};
 ghost use lib.ListN.{length};
 ghost use lib.Dec.{ltb};
-ghost use Rattle.nodes.specs.Store.{Kind, arity, Store, nodes};
+ghost use Rattle.nodes.specs.Store.{Kind, rel, arity, Store, nodes};
 ghost use Rattle.nodes.specs.WellFormed.{is-held};
-ghost use Rattle.store.specs.Outcome.{Verdict, provided, of-one, of-two};
-ghost use Rattle.store.specs.Checking.{checked, Low, Checks};
+ghost use Rattle.store.specs.Outcome.{Verdict, provided, of-one, of-two, of-four};
+ghost use Rattle.store.specs.Checking.{checked, Low, Checks, AllAt};
 ghost use Rattle.store.specs.declared.Refusal.the-variants.{NoChildren, OutOfRange};
 
 // Whether a handle is held among n nodes of c numbers.
@@ -17,6 +18,23 @@ fn is_held(c: usize, n: usize, h: u32) -> bool
         return true;
     }
     memory::words::place_of(c, h) < n
+}
+
+// Whether four handles are held.
+fn all_held(c: usize, n: usize, x00: u32, x01: u32, x10: u32, x11: u32) -> bool
+    ensures { λ r. ⌜ ((K : Kind) (S : Store) → c ≡ arity K → length (nodes K S) ≡ n
+        → (is-held K S «x00» && (is-held K S «x01» && (is-held K S «x10» && is-held K S «x11»))) ≡ r) ⌝ }
+{
+    if !is_held(c, n, x00) {
+        return false;
+    }
+    if !is_held(c, n, x01) {
+        return false;
+    }
+    if !is_held(c, n, x10) {
+        return false;
+    }
+    is_held(c, n, x11)
 }
 
 // One operand.
@@ -102,6 +120,88 @@ pub fn branches(nodes: &[u32], c: usize, n: usize, k: u32, var: u32, a: u32, b: 
     if let crate::Check::Level(l) = check {
         if var >= l {
             return crate::Check::No(crate::Refusal::NoChildren);
+        }
+    }
+    check
+}
+
+// Whether three held handles are at this level.
+fn all_at(nodes: &[u32], c: usize, k: u32, level: u32, x01: u32, x10: u32, x11: u32) -> bool
+    requires { ⌜ 0 < c ⌝ }
+    ensures { λ r. ⌜ AllAt (now (nodes .entry)) c k level «x01» «x10» «x11» r ⌝ }
+{
+    if crate::judge::level(nodes, c, k, x01) != level {
+        return false;
+    }
+    if crate::judge::level(nodes, c, k, x10) != level {
+        return false;
+    }
+    crate::judge::level(nodes, c, k, x11) == level
+}
+
+// Four children, for a node above them.
+pub fn four(
+    nodes: &[u32],
+    c: usize,
+    n: usize,
+    k: u32,
+    x00: u32,
+    x01: u32,
+    x10: u32,
+    x11: u32,
+) -> crate::Check
+    requires { ⌜ 0 < c ⌝ }
+    ensures { λ r. ⌜ ((K : Kind) → c ≡ arity K → Checks K (now (nodes .entry)) n k
+        (λ S v. of-four k K S «x00» «x01» «x10» «x11» (λ l. provided OutOfRange (ltb l k) (v l))) r) ⌝ }
+{
+    if !all_held(c, n, x00, x01, x10, x11) {
+        return crate::Check::No(crate::Refusal::NotHeld);
+    }
+    let l = crate::judge::level(nodes, c, k, x00);
+    if !all_at(nodes, c, k, l, x01, x10, x11) {
+        return crate::Check::No(crate::Refusal::LevelsDiffer);
+    }
+    if l >= k {
+        return crate::Check::No(crate::Refusal::OutOfRange);
+    }
+    crate::Check::Level(l)
+}
+
+// 2 to the power l.
+pub fn power(l: u8) -> u64
+    requires { ⌜ l ≤ 32 ⌝ }
+    ensures { λ r. ⌜ r ≡ 2 ^ l ⌝ }
+{
+    let mut p: u64 = 1;
+    let mut i: u8 = 0;
+    while i < l {
+        p = p * 2;
+        i += 1;
+    }
+    p
+}
+
+// A number as a wider one.
+pub fn wide(x: u32) -> u64
+    ensures { λ r. ⌜ r ≡ x ⌝ }
+{
+    x as u64
+}
+
+// A relation, and two packets of its level.
+pub fn packets(nodes: &[u32], n: usize, k: u32, a: u32, input: u32, output: u32) -> crate::Check
+    requires { ⌜ k ≤ 32 ⌝ }
+    ensures { λ r. ⌜ Checks rel (now (nodes .entry)) n k
+        (λ S v. of-one k rel S a (λ l. provided OutOfRange (ltb input (2 ^ l)) (provided OutOfRange (ltb output (2 ^ l)) (v l)))) r ⌝ }
+{
+    let check = one(nodes, 4, n, k, a);
+    if let crate::Check::Level(l) = check {
+        let most = power(crate::narrow(l));
+        if wide(input) >= most {
+            return crate::Check::No(crate::Refusal::OutOfRange);
+        }
+        if wide(output) >= most {
+            return crate::Check::No(crate::Refusal::OutOfRange);
         }
     }
     check

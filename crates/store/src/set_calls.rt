@@ -5,8 +5,10 @@ ghost use Rattle.nodes.specs.Store.{set};
 ghost use Rattle.memory.specs.Arena.{Performs};
 ghost use Rattle.store.specs.Memory.{memories};
 ghost use Rattle.store.specs.Outcome.{told};
-ghost use Rattle.store.specs.Calls.{set-declines, set-program, set-call, step};
-ghost use Rattle.store.specs.Checking.{FieldFits, Checks, Ready};
+ghost use Rattle.store.specs.Calls.{set-call, step};
+ghost use Rattle.store.specs.SetCalls.{set-declines, set-program};
+ghost use Rattle.store.specs.Checking.{Checks, Ready};
+ghost use Rattle.store.specs.SetChecking.{SetFieldFits};
 
 // A call with its arguments, after sp.rs: handles, and for `test` and `ifelse` a field first; a value is 0 or 1.
 pub enum SetCall {
@@ -47,7 +49,7 @@ fn perform(
     level: u8,
     call: SetCall,
 ) -> memory::Arena
-    requires { ⌜ FieldFits call ⌝ }
+    requires { ⌜ SetFieldFits call ⌝ }
     ensures { λ r. ⌜ Performs set (set-program k level call) s (now (nodes .entry)) (now (nodes .exit)) (now (work .entry)) (now (work .exit)) r ⌝ }
 {
     match call {

@@ -4,8 +4,10 @@ ghost use lib.ListN.{length, replicate};
 ghost use Rattle.nodes.specs.Store.{set};
 ghost use Rattle.store.specs.Memory.{memories};
 ghost use Rattle.store.specs.Outcome.{told};
-ghost use Rattle.store.specs.Calls.{read-declines, set-read, step};
-ghost use Rattle.store.specs.Checking.{Checks, ReadsAnswer, Ready};
+ghost use Rattle.store.specs.Calls.{set-read, step};
+ghost use Rattle.store.specs.SetCalls.{set-read-declines, set-read-answer};
+ghost use Rattle.store.specs.Checking.{Checks, Answered, Ready};
+ghost use Rattle.store.specs.SetChecking.{SetReadSafe};
 
 // A call with its arguments, after sp.rs.
 pub enum SetRead {
@@ -17,7 +19,7 @@ pub enum SetRead {
 
 // The level of a call's operands on the first n nodes.
 fn check(nodes: &[u32], n: usize, k: u32, call: SetRead) -> crate::Check
-    ensures { λ r. ⌜ Checks set (now (nodes .entry)) n k (λ S v. read-declines k call S v) r ⌝ }
+    ensures { λ r. ⌜ Checks set (now (nodes .entry)) n k (λ S v. set-read-declines k call S v) r ⌝ }
 {
     match call {
         SetRead::Get(a) => crate::operands::parent(nodes, 2, n, k, a),
@@ -29,7 +31,7 @@ fn check(nodes: &[u32], n: usize, k: u32, call: SetRead) -> crate::Check
 
 // The answer of a call whose operands are of this level, among n nodes.
 fn answer(nodes: &[u32], work: &mut [u32], n: usize, level: u8, call: SetRead) -> crate::Answer
-    ensures { λ r. ⌜ ReadsAnswer (now (nodes .entry)) (now (work .entry)) n level call r ⌝ }
+    ensures { λ r. ⌜ Answered set (now (nodes .entry)) (now (work .entry)) n (λ S. SetReadSafe S level call) (λ S. set-read-answer S level call) r ⌝ }
 {
     let s = memory::Arena {
         ok: true,
@@ -39,7 +41,7 @@ fn answer(nodes: &[u32], work: &mut [u32], n: usize, level: u8, call: SetRead) -
     match call {
         SetRead::Get(a) => {
             let x = sets::get(nodes, a);
-            crate::Answer::Children(x.x0, x.x1)
+            crate::Answer::SetNode(x.x0, x.x1)
         }
         SetRead::Complement(a) => crate::Answer::Handle(memory::words::other(a)),
         SetRead::IsZero(a) => {

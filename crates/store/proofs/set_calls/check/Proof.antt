@@ -5,7 +5,7 @@ use Prim.Native.Nat.{ℕ}
 use native.Mathlib.Omega.{arith}
 use borrow.Author.Needs.{needs}
 use Rattle.nodes.specs.Store.{set}
-use Rattle.store.specs.Calls.{set-declines}
+use Rattle.store.specs.SetCalls.{set-declines}
 use Rattle.store.specs.Checking.{Checks}
 use Rattle.store.specs.declared.Check.{Check}
 use Rattle.store.specs.declared.set_calls.SetCall.{SetCall}

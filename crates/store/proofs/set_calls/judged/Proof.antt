@@ -3,9 +3,33 @@ use native.Mathlib.Omega.{arith}
 use borrow.Author.Needs.{needs}
 use Rattle.nodes.specs.Store.{set, rel}
 use Rattle.store.specs.Memory.{memories}
-use Rattle.store.proofs.SetSteps.{set-declined, set-low, set-field, set-within, set-ran}
+use Rattle.store.proofs.CallSteps.{adding-declined, adding-goes, adding-low, adding-within, adding-ran}
+use Rattle.store.proofs.SetSteps.{set-adding}
+use Rattle.store.proofs.SetMeant.{set-field-small}
 use Rattle.store.proofs.set_calls.judged.Statement.{statement}
 use Rattle.store.proofs.set_calls.judged.Tie as tie
+
+shared-slice-read-k : tie.Need-shared-slice-read-k
+shared-slice-read-k c = let h = c .before .before .before .before .pre .store .room rel .headed in omega arith
+
+slice-read-wide : tie.Need-slice-read-wide
+slice-read-wide c = let h = c .before .before .before .before .before .pre .store .room set .headed in omega arith
+
+sub-check : tie.Need-sub-check
+sub-check c = let h = c .before .before .before .before .before .before .pre .store .room set .headed in omega arith
+
+part-check-start : tie.Need-part-check-start
+part-check-start c = let h = c .before .before .before .before .before .before .before .pre .store .room set .headed in omega arith
+
+sub-perform : tie.Need-sub-perform
+sub-perform c =
+    let c12 = c .before .before .before .before .before .before .before .before .before .before .before .before in
+    let h = c12 .pre .store .room set .headed in omega arith
+
+part-perform-start : tie.Need-part-perform-start
+part-perform-start c =
+    let c12 = c .before .before .before .before .before .before .before .before .before .before .before .before in
+    let h = c12 .pre .store .room set .headed in omega arith
 
 returns : tie.Need-returns
 returns c =
@@ -13,8 +37,8 @@ returns c =
     let c6 = c3 .before .before .before in
     let c12 = c6 .before .before .before .before .before .before in
     let a = c12 .args in
-    set-declined (memories (a .relations .now) (a .sets .now)) (a .work .now) (c12 .pre) _ (c6 .wide .ensures)
-    (a .call) _ (c3 .check .ensures) _ (c .before .check2 .given .1)
+    adding-declined set (memories (a .relations .now) (a .sets .now)) (a .work .now) (c12 .pre) _ (c6 .wide .ensures)
+    (set-adding (a .call)) _ (c3 .check .ensures) _ (c .before .check2 .given .1)
 
 narrow-requires-2 : tie.Need-narrow-requires-2
 narrow-requires-2 c κs =
@@ -23,8 +47,8 @@ narrow-requires-2 c κs =
     let c9 = c6 .before .before .before in
     let c15 = c9 .before .before .before .before .before .before in
     let a = c15 .args in
-    set-low (memories (a .relations .now) (a .sets .now)) (a .work .now) (c15 .pre) _ (c9 .wide .ensures)
-    (a .call) _ (c6 .check .ensures) _ (c4 .check3 .given .1)
+    adding-low set (memories (a .relations .now) (a .sets .now)) (a .work .now) (c15 .pre) _ (c9 .wide .ensures)
+    (set-adding (a .call)) _ (c6 .check .ensures) _ (c4 .check3 .given .1)
 
 perform-requires : tie.Need-perform-requires
 perform-requires c κs =
@@ -33,8 +57,10 @@ perform-requires c κs =
     let c10 = c7 .before .before .before in
     let c16 = c10 .before .before .before .before .before .before in
     let a = c16 .args in
-    set-field (memories (a .relations .now) (a .sets .now)) (a .work .now) (c16 .pre) _ (c10 .wide .ensures)
-    (a .call) _ (c7 .check .ensures) _ (c5 .check3 .given .1)
+    let y = c16 .pre in
+    set-field-small (y .store .formed) (a .call) (y .store .few)
+    (adding-goes set (memories (a .relations .now) (a .sets .now)) (a .work .now) y _ (c10 .wide .ensures)
+    (set-adding (a .call)) _ (c7 .check .ensures) _ (c5 .check3 .given .1))
 
 finish-requires : tie.Need-finish-requires
 finish-requires c κs =
@@ -46,8 +72,8 @@ finish-requires c κs =
     let c16 = c13 .before .before .before in
     let c22 = c16 .before .before .before .before .before .before in
     let a = c22 .args in
-    let t = set-within (memories (a .relations .now) (a .sets .now)) (a .work .now) (c22 .pre) _ (c16 .wide .ensures)
-    (a .call) _ (c13 .check .ensures) _ (c11 .check3 .given .1) _ _ _ _ _
+    let t = adding-within set (memories (a .relations .now) (a .sets .now)) (a .work .now) (c22 .pre) _ (c16 .wide .ensures)
+    (set-adding (a .call)) _ (c13 .check .ensures) _ (c11 .check3 .given .1) _ _ _ _ _
     (c7 .narrow .ensures) (c6 .narrow2 .ensures) (c5 .perform .ensures) in (omega arith, t .0, t .1, t .2)
 
 returns-2 : tie.Need-returns-2
@@ -60,29 +86,25 @@ returns-2 c =
     let c19 = c16 .before .before .before in
     let c25 = c19 .before .before .before .before .before .before in
     let a = c25 .args in
-    set-ran (memories (a .relations .now) (a .sets .now)) (a .work .now) (c25 .pre) _ (c19 .wide .ensures)
-    (a .call) _ (c16 .check .ensures) _ (c14 .check3 .given .1) _ _ _ _ _
+    adding-ran set (memories (a .relations .now) (a .sets .now)) (a .work .now) (c25 .pre) _ (c19 .wide .ensures)
+    (set-adding (a .call)) _ (c16 .check .ensures) _ (c14 .check3 .given .1) _ _ _ _ _
     (c10 .narrow .ensures) (c9 .narrow2 .ensures) (c8 .perform .ensures) _ _ (c .before .before .finish .ensures)
 
 pub judged-spec : {M : Type 1} → statement M
 judged-spec =
     tie.close
     (tie.spec
-    (λ c. let h = c .before .before .before .before .pre .store .room rel .headed in omega arith)
-    (λ c. let h = c .before .before .before .before .before .pre .store .room set .headed in omega arith)
+    shared-slice-read-k
+    slice-read-wide
     (λ c κs. search needs)
-    (λ c. let h = c .before .before .before .before .before .before .pre .store .room set .headed in omega arith)
-    (λ c. let h = c .before .before .before .before .before .before .before .pre .store .room set .headed in omega arith)
+    sub-check
+    part-check-start
     (λ c. search needs)
     (λ c κs. search needs)
     (λ c. search needs)
     (λ c. search needs)
-    (λ c.
-    let h = c .before .before .before .before .before .before .before .before .before .before .before .before .pre .store .room set .headed in
-    omega arith)
-    (λ c.
-    let h = c .before .before .before .before .before .before .before .before .before .before .before .before .pre .store .room set .headed in
-    omega arith)
+    sub-perform
+    part-perform-start
     (λ c. search needs)
     (λ c κs. search needs)
     narrow-requires-2

@@ -7,8 +7,8 @@ use Rattle.nodes.specs.Store.{set}
 use Rattle.nodes.specs.Operations.{test}
 use Rattle.nodes.specs.Sets.{ifelse}
 use Rattle.memory.proofs.Steps.{performs-by}
-use Rattle.store.specs.Calls.{set-program}
-use Rattle.store.specs.Checking.{FieldFits}
+use Rattle.store.specs.SetCalls.{set-program}
+use Rattle.store.specs.SetChecking.{SetFieldFits}
 use Rattle.store.specs.declared.set_calls.SetCall.{SetCall}
 use Rattle.store.specs.declared.set_calls.SetCall.the-variants.{Test, Ifelse}
 use Rattle.store.proofs.set_calls.perform.Statement.{statement}
@@ -80,13 +80,13 @@ narrow-requires : tie.Need-narrow-requires
 narrow-requires c κs =
     let c3 = c .before .before .before in
     let c7 = c3 .before .before .before .before in
-    subst FieldFits (c3 .call6 .given .1) (c7 .pre)
+    subst SetFieldFits (c3 .call6 .given .1) (c7 .pre)
 
 narrow-requires-2 : tie.Need-narrow-requires-2
 narrow-requires-2 c κs =
     let c3 = c .before .before .before in
     let c7 = c3 .before .before .before .before in
-    subst FieldFits (c3 .call7 .given .1) (c7 .pre)
+    subst SetFieldFits (c3 .call7 .given .1) (c7 .pre)
 
 pub perform-spec : {M : Type 1} → statement M
 perform-spec =

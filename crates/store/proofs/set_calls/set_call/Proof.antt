@@ -3,17 +3,19 @@ use mathlib.Core.Path.{ap, _∙_}
 use lib.ListN.{replicate}
 use borrow.Author.Needs.{needs}
 use borrow.Author.Tests.{not-true, not-false}
+use Rattle.store.proofs.CallSteps.{adding-no-store}
 use Rattle.store.proofs.Running.{judged-ready}
-use Rattle.store.proofs.SetSteps.{set-no-store}
+use Rattle.store.proofs.SetSteps.{set-adding}
 use Rattle.store.proofs.set_calls.set_call.Statement.{statement}
 use Rattle.store.proofs.set_calls.set_call.Tie as tie
 
 returns : tie.Need-returns
 returns c =
     let c4 = c .before .before .before .before in
+    let c4 = c4 in
     let c7 = c4 .before .before .before in
     let t = c7 .is-store .ensures in
-    (set-no-store _ t (not-true _ (c4 .if1 .taken)), c .before .before .clear .ensures ∙ ap (λ n. replicate n 0) (t .wide))
+    (adding-no-store (set-adding _) t (not-true _ (c4 .if1 .taken)), c .before .before .clear .ensures ∙ ap (λ n. replicate n 0) (t .wide))
 
 judged-requires : tie.Need-judged-requires
 judged-requires c κs =
@@ -23,6 +25,7 @@ judged-requires c κs =
 returns-2 : tie.Need-returns-2
 returns-2 c =
     let c8 = c .before .before .before .before .before .before .before .before in
+    let c8 = c8 in
     let c14 = c8 .before .before .before .before .before .before in
     (c8 .judged .ensures, c .before .before .clear2 .ensures ∙ ap (λ n. replicate n 0) (c8 .judged .kept .1 .1 .0 ∙ c14 .is-store .ensures .wide))
 

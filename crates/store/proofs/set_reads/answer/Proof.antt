@@ -1,28 +1,41 @@
 -- `answer` gives the call's answer.
-use mathlib.Core.Path.{_≡_, refl}
+use mathlib.Core.Path.{_≡_, refl, sym, ap, subst}
+use mathlib.Core.List.{List}
+use Prim.Native.Nat.{ℕ}
 use borrow.Author.Needs.{needs}
+use Rattle.nodes.specs.Recursion.{x0, x1}
 use Rattle.nodes.specs.Store.{set}
 use Rattle.nodes.proofs.ReadOnly.{is-zero-read-only, intersects-read-only}
-use Rattle.store.proofs.Reading.{reads-children, reads-other, reads-truth}
+use Rattle.store.specs.Checking.{Answered}
+use Rattle.store.specs.SetCalls.{set-read-answer}
+use Rattle.store.specs.SetChecking.{SetReadSafe}
+use Rattle.store.specs.declared.Answer.{Answer}
+use Rattle.store.specs.declared.Answer.the-variants.{Handle, SetNode}
+use Rattle.store.specs.declared.set_reads.SetRead.{SetRead}
+use Rattle.store.proofs.Reading.{reads-truth, reads-node, reads-number}
 use Rattle.store.proofs.set_reads.answer.Statement.{statement}
 use Rattle.store.proofs.set_reads.answer.Tie as tie
 
+of-call : {m w : List ℕ} {n : ℕ} (l : ℕ) {r : Answer} {a b : SetRead} → a ≡ b → Answered set m w n (λ S. SetReadSafe S l b) (λ S. set-read-answer S l b) r
+    → Answered set m w n (λ S. SetReadSafe S l a) (λ S. set-read-answer S l a) r
+of-call {m} {w} {n} l {r} e A = subst (λ c. Answered set m w n (λ S. SetReadSafe S l c) (λ S. set-read-answer S l c) r) (sym e) A
+
 returns : tie.Need-returns
-returns c = reads-children (c .before .before .call .given .1) (c .get .ensures)
+returns c = of-call _ (c .before .before .call .given .1) (reads-node (λ x. SetNode (x0 x) (x1 x)) (λ S s. s) (λ S. refl) (c .get .ensures))
 
 returns-2 : tie.Need-returns-2
-returns-2 c = reads-other (c .before .before .call2 .given .1) (c .other .ensures)
+returns-2 c = of-call _ (c .before .before .call2 .given .1) (reads-number (λ S. ap Handle (sym (c .other .ensures))))
 
 returns-3 : tie.Need-returns-3
 returns-3 c =
     let c4 = c .before .before .before .before in
-    reads-truth (is-zero-read-only set _ _) (c4 .call3 .given .1) (λ S s. s) (λ S. refl) (c .before .is-zero .ensures)
+    of-call _ (c4 .call3 .given .1) (reads-truth (is-zero-read-only set _ _) (λ S s. s) (λ S. refl) (c .before .is-zero .ensures))
 
 returns-4 : tie.Need-returns-4
 returns-4 c =
     let c3 = c .before .before .before in
     let c6 = c3 .before .before .before in
-    reads-truth (intersects-read-only _ _ _) (c6 .call4 .given .1) (λ S s. s) (λ S. refl) (c3 .intersects .ensures)
+    of-call _ (c6 .call4 .given .1) (reads-truth (intersects-read-only _ _ _) (λ S s. s) (λ S. refl) (c3 .intersects .ensures))
 
 pub answer-spec : {M : Type 1} → statement M
 answer-spec =

@@ -4,16 +4,16 @@ use mathlib.Core.List.{List}
 use Prim.Native.Nat.{ℕ}
 use borrow.Author.Needs.{needs}
 use Rattle.nodes.specs.Store.{set}
-use Rattle.store.specs.Calls.{read-declines}
+use Rattle.store.specs.SetCalls.{set-read-declines}
 use Rattle.store.specs.Checking.{Checks}
 use Rattle.store.specs.declared.Check.{Check}
 use Rattle.store.specs.declared.set_reads.SetRead.{SetRead}
 use Rattle.store.proofs.set_reads.check.Statement.{statement}
 use Rattle.store.proofs.set_reads.check.Tie as tie
 
-of-call : {m : List ℕ} {n k : ℕ} {r : Check} {a b : SetRead} → a ≡ b → Checks set m n k (λ S v. read-declines k b S v) r
-    → Checks set m n k (λ S v. read-declines k a S v) r
-of-call {m} {n} {k} {r} e C = subst (λ c. Checks set m n k (λ S v. read-declines k c S v) r) (sym e) C
+of-call : {m : List ℕ} {n k : ℕ} {r : Check} {a b : SetRead} → a ≡ b → Checks set m n k (λ S v. set-read-declines k b S v) r
+    → Checks set m n k (λ S v. set-read-declines k a S v) r
+of-call {m} {n} {k} {r} e C = subst (λ c. Checks set m n k (λ S v. set-read-declines k c S v) r) (sym e) C
 
 pub check-spec : {M : Type 1} → statement M
 check-spec =

@@ -3,40 +3,10 @@ use native.Mathlib.Omega.{arith}
 use borrow.Author.Needs.{needs}
 use Rattle.nodes.specs.Store.{set, rel}
 use Rattle.store.specs.Memory.{memories}
-use Rattle.store.proofs.SetSteps.{read-declined, read-low, read-told}
+use Rattle.store.proofs.CallSteps.{reading-declined, reading-low, reading-told}
+use Rattle.store.proofs.SetSteps.{set-reading}
 use Rattle.store.proofs.set_reads.judged.Statement.{statement}
 use Rattle.store.proofs.set_reads.judged.Tie as tie
-
-returns : tie.Need-returns
-returns c =
-    let c3 = c .before .before .before in
-    let c5 = c3 .before .before in
-    let c11 = c5 .before .before .before .before .before .before in
-    let a = c11 .args in
-    read-declined (memories (a .relations .now) (a .sets .now)) (a .work .now) (c11 .pre) _ (c5 .wide .ensures)
-    (a .call) _ (c3 .check .ensures) _ (c .before .check2 .given .1)
-
-narrow-requires : tie.Need-narrow-requires
-narrow-requires c κs =
-    let c3 = c .before .before .before in
-    let c5 = c3 .before .before in
-    let c7 = c5 .before .before in
-    let c13 = c7 .before .before .before .before .before .before in
-    let a = c13 .args in
-    read-low (memories (a .relations .now) (a .sets .now)) (a .work .now) (c13 .pre) _ (c7 .wide .ensures)
-    (a .call) _ (c5 .check .ensures) _ (c3 .check3 .given .1)
-
-returns-2 : tie.Need-returns-2
-returns-2 c =
-    let c3 = c .before .before .before in
-    let c7 = c3 .before .before .before .before in
-    let c9 = c7 .before .before in
-    let c11 = c9 .before .before in
-    let c17 = c11 .before .before .before .before .before .before in
-    let a = c17 .args in
-    read-told (memories (a .relations .now) (a .sets .now)) (a .work .now) (c17 .pre) _ (c11 .wide .ensures)
-    (a .call) _ (c9 .check .ensures) _ (c7 .check3 .given .1) _ _
-    (c3 .narrow .ensures) (c .before .before .answer .ensures)
 
 shared-slice-read-k : tie.Need-shared-slice-read-k
 shared-slice-read-k c = let h = c .before .before .before .before .pre .store .room rel .headed in omega arith
@@ -59,6 +29,38 @@ part-answer-start : tie.Need-part-answer-start
 part-answer-start c =
     let c11 = c .before .before .before .before .before .before .before .before .before .before .before in
     let h = c11 .pre .store .room set .headed in omega arith
+
+returns : tie.Need-returns
+returns c =
+    let c3 = c .before .before .before in
+    let c5 = c3 .before .before in
+    let c11 = c5 .before .before .before .before .before .before in
+    let a = c11 .args in
+    reading-declined set (memories (a .relations .now) (a .sets .now)) (a .work .now) (c11 .pre) _ (c5 .wide .ensures)
+    (set-reading (a .call)) _ (c3 .check .ensures) _ (c .before .check2 .given .1)
+
+narrow-requires : tie.Need-narrow-requires
+narrow-requires c κs =
+    let c3 = c .before .before .before in
+    let c5 = c3 .before .before in
+    let c7 = c5 .before .before in
+    let c13 = c7 .before .before .before .before .before .before in
+    let a = c13 .args in
+    let h = reading-low set (memories (a .relations .now) (a .sets .now)) (a .work .now) (c13 .pre) _ (c7 .wide .ensures)
+    (set-reading (a .call)) _ (c5 .check .ensures) _ (c3 .check3 .given .1) in
+    omega arith
+
+returns-2 : tie.Need-returns-2
+returns-2 c =
+    let c3 = c .before .before .before in
+    let c7 = c3 .before .before .before .before in
+    let c9 = c7 .before .before in
+    let c11 = c9 .before .before in
+    let c17 = c11 .before .before .before .before .before .before in
+    let a = c17 .args in
+    reading-told set (memories (a .relations .now) (a .sets .now)) (a .work .now) (c17 .pre) _ (c11 .wide .ensures)
+    (set-reading (a .call)) _ (c9 .check .ensures) _ (c7 .check3 .given .1) _ _
+    (c3 .narrow .ensures) (c .before .before .answer .ensures)
 
 pub judged-spec : {M : Type 1} → statement M
 judged-spec =

@@ -3,17 +3,19 @@ use mathlib.Core.Path.{ap, _∙_}
 use lib.ListN.{replicate}
 use borrow.Author.Needs.{needs}
 use borrow.Author.Tests.{not-true, not-false}
+use Rattle.store.proofs.CallSteps.{reading-no-store}
 use Rattle.store.proofs.Running.{judged-ready}
-use Rattle.store.proofs.SetSteps.{read-no-store}
+use Rattle.store.proofs.SetSteps.{set-reading}
 use Rattle.store.proofs.set_reads.set_read.Statement.{statement}
 use Rattle.store.proofs.set_reads.set_read.Tie as tie
 
 returns : tie.Need-returns
 returns c =
     let c4 = c .before .before .before .before in
+    let c4 = c4 in
     let c7 = c4 .before .before .before in
     let t = c7 .is-store .ensures in
-    (read-no-store _ t (not-true _ (c4 .if1 .taken)), c .before .before .clear .ensures ∙ ap (λ n. replicate n 0) (t .wide))
+    (reading-no-store (set-reading _) t (not-true _ (c4 .if1 .taken)), c .before .before .clear .ensures ∙ ap (λ n. replicate n 0) (t .wide))
 
 judged-requires : tie.Need-judged-requires
 judged-requires c κs = judged-ready (c .before .before .before .before .is-store .ensures) (not-false _ (c .before .if1 .left))
@@ -21,6 +23,7 @@ judged-requires c κs = judged-ready (c .before .before .before .before .is-stor
 returns-2 : tie.Need-returns-2
 returns-2 c =
     let c6 = c .before .before .before .before .before .before in
+    let c6 = c6 in
     let c11 = c6 .before .before .before .before .before in
     (c6 .judged .ensures, c .before .before .clear2 .ensures ∙ ap (λ n. replicate n 0) (c6 .judged .kept .1 .1 .0 ∙ c11 .is-store .ensures .wide))
 

@@ -1,0 +1,85 @@
+-- A call that is not declined has held operands of one level.
+use mathlib.Core.Path.{_≡_, refl, sym, ap, _∙_, subst}
+use mathlib.Core.Bool.{Bool, true, false}
+use Prim.Native.Nat.{ℕ, zero, suc, _<_, _≤_}
+use native.Mathlib.Omega.{arith}
+use lib.Dec.{ltb, eqb, T, ltb→lt}
+use Rattle.nodes.specs.Store.{Kind, Store}
+use Rattle.nodes.specs.Programs.{Prog, panic}
+use Rattle.nodes.specs.WellFormed.{Held, WellFormed, is-held, level-of}
+use Rattle.nodes.proofs.Bools.{eqb-iff}
+use Rattle.nodes.proofs.Rules.{Does}
+use Rattle.store.specs.Outcome.{Verdict, declines, gives, runs, provided, of-one, of-two, of-four}
+use Rattle.store.specs.declared.Answer.the-variants.{Handle, Truth, SetNode, RelationNode, Declined}
+use Rattle.store.specs.declared.Refusal.{Refusal}
+use Rattle.store.proofs.Handles.{held-here, all-four}
+
+-- VERDICTS that are no refusal
+abbrev pub Goes : Verdict → Type 0
+Goes (declines r) = ⊥
+Goes (gives a) = Unit {0}
+Goes (runs p) = Unit {0}
+
+abbrev pub program-in : Verdict → Prog
+program-in (declines r) = panic
+program-in (gives a) = panic
+program-in (runs p) = p
+
+pub provided-went : (r : Refusal) (b : Bool) {v u : Verdict} → Goes u → provided r b v ≡ u → (b ≡ true) × (v ≡ u)
+unfolding provided
+provided-went r true g e = (refl, e)
+provided-went r false g e = absurd (subst Goes (sym e) g)
+
+-- a held operand and its level; a second one, held at the same
+pub record Operand (k : ℕ) (K : Kind) (S : Store) (l a : ℕ) : Type 0 where
+  pub low : l ≤ k
+  pub held : Held K S l a
+
+module _ {k : ℕ} {S : Store} {u : Verdict} (K : Kind) (F : WellFormed k S) (g : Goes u) where
+  pub one-went : (a : ℕ) (v : ℕ → Verdict) → of-one k K S a v ≡ u → Operand k K S (level-of k K S a) a × (v (level-of k K S a) ≡ u)
+  unfolding of-one
+  one-went a v e = let t = provided-went _ _ g e in let h = held-here K F a (t .0) in (record { low = h .0; held = h .1 }, t .1)
+
+  pub two-went : (a b : ℕ) (v : ℕ → Verdict) → of-two k K S a b v ≡ u
+      → Operand k K S (level-of k K S a) a × Operand k K S (level-of k K S a) b × (v (level-of k K S a) ≡ u)
+  unfolding of-two
+  two-went a b v e =
+      let s = one-went a _ e in
+      let t = one-went b _ (s .1) in
+      let q = provided-went _ _ g (t .1) in
+      (s .0, subst (λ l. Operand k K S l b) (eqb-iff _ _ .0 (subst T (sym (q .0)) tt)) (t .0), q .1)
+
+  pub four-went : (a b c d : ℕ) (v : ℕ → Verdict) → of-four k K S a b c d v ≡ u → (let l = level-of k K S a in
+      Operand k K S l a × Operand k K S l b × Operand k K S l c × Operand k K S l d × (v l ≡ u))
+  unfolding of-four
+  four-went a b c d v e =
+      let s = provided-went _ _ g e in
+      let h = all-four _ _ _ _ (s .0) in
+      let t = provided-went _ _ g (s .1) in
+      let q = all-four true _ _ _ (t .0) in
+      let A = held-here K F a (h .0) in
+      (record { low = A .0; held = A .1 }, at b (h .1) (q .1), at c (h .2) (q .2), at d (h .3) (q .3), t .1)
+    where
+      at : {l : ℕ} (x : ℕ) → is-held K S x ≡ true → eqb (level-of k K S x) l ≡ true → Operand k K S l x
+      at x e f = let h = held-here K F x e in subst (λ l. Operand k K S l x) (eqb-iff _ _ .0 (subst T (sym f) tt)) (record { low = h .0; held = h .1 })
+
+pub less : (a b : ℕ) → ltb a b ≡ true → a < b
+less a b e = ltb→lt a b (subst T (sym e) tt)
+
+pub above : (l : ℕ) → ltb 0 l ≡ true → (n : ℕ) × (l ≡ suc n)
+above zero e = absurd (let h = less 0 0 e in omega arith)
+above (suc l) e = (l, refl)
+
+-- the program that a verdict runs
+pub does-as : {k : ℕ} {S : Store} {p q : Prog} {Q : Store → ℕ → Type 0} → runs q ≡ runs p → Does k S q Q → Does k S p Q
+does-as {k} {S} {Q = Q} e D = subst (λ q. Does k S q Q) (ap program-in e) D
+
+-- the handle in an answer
+abbrev pub handle-in : Verdict → ℕ
+handle-in (declines r) = 0
+handle-in (gives (Handle h)) = h
+handle-in (gives (Truth b)) = 0
+handle-in (gives (SetNode x y)) = 0
+handle-in (gives (RelationNode x y z u)) = 0
+handle-in (gives (Declined r)) = 0
+handle-in (runs p) = 0

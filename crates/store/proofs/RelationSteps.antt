@@ -1,0 +1,37 @@
+-- The calls on relations as calls that add relations, or nothing: each is safe by its meaning.
+use mathlib.Core.Path.{_≡_, refl}
+use Rattle.nodes.specs.Store.{rel}
+use Rattle.store.specs.Calls.{relation-call, relation-read, on-store, step}
+use Rattle.store.specs.Memory.{Memories}
+use Rattle.store.specs.RelationCalls.{relation-declines, relation-program, relation-verdict, relation-read-declines, relation-read-answer}
+use Rattle.store.specs.RelationCalls.{relation-read-verdict}
+use Rattle.store.specs.RelationChecking.{RelationReadSafe}
+use Rattle.store.specs.declared.relation_calls.RelationCall.{RelationCall}
+use Rattle.store.specs.declared.relation_reads.RelationRead.{RelationRead}
+use Rattle.store.proofs.CallSteps.{Adding, Reading}
+use Rattle.store.proofs.RelationMeant.{relation-does, relation-read-safe}
+
+pub relation-steps : (c : RelationCall) (M : Memories) → step (relation-call c) M ≡ on-store (relation-verdict c) M
+unfolding step
+relation-steps c M = refl
+
+abbrev pub relation-adding : (c : RelationCall) → Adding rel (relation-call c)
+relation-adding c = record {
+  judge = λ k S v. relation-declines k c S v;
+  program = λ k l. relation-program k l c;
+  steps = relation-steps c;
+  safe = λ k S p F e. relation-does F c e .safe;
+}
+
+pub relation-read-steps : (c : RelationRead) (M : Memories) → step (relation-read c) M ≡ on-store (relation-read-verdict c) M
+unfolding step
+relation-read-steps c M = refl
+
+abbrev pub relation-reading : (c : RelationRead) → Reading (relation-read c)
+relation-reading c = record {
+  judge = λ k S v. relation-read-declines k c S v;
+  needs = λ S l. RelationReadSafe S l c;
+  answer = λ S l. relation-read-answer S l c;
+  steps = relation-read-steps c;
+  safe = λ k S l F e. relation-read-safe F c l e;
+}

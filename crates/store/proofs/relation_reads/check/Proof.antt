@@ -1,0 +1,30 @@
+-- `check` says how a call that adds nothing goes on: by the check of its operand.
+use mathlib.Core.Path.{_≡_, refl, sym, subst}
+use mathlib.Core.List.{List}
+use Prim.Native.Nat.{ℕ}
+use borrow.Author.Needs.{needs}
+use Rattle.nodes.specs.Store.{rel}
+use Rattle.store.specs.Checking.{Checks}
+use Rattle.store.specs.RelationCalls.{relation-read-declines}
+use Rattle.store.specs.declared.Check.{Check}
+use Rattle.store.specs.declared.relation_reads.RelationRead.{RelationRead}
+use Rattle.store.proofs.relation_reads.check.Statement.{statement}
+use Rattle.store.proofs.relation_reads.check.Tie as tie
+
+of-call : {m : List ℕ} {n k : ℕ} {r : Check} {a b : RelationRead} → a ≡ b → Checks rel m n k (λ S v. relation-read-declines k b S v) r
+    → Checks rel m n k (λ S v. relation-read-declines k a S v) r
+of-call {m} {n} {k} {r} e C = subst (λ c. Checks rel m n k (λ S v. relation-read-declines k c S v) r) (sym e) C
+
+pub check-spec : {M : Type 1} → statement M
+check-spec =
+    tie.close
+    (tie.spec
+    (λ c. search needs)
+    (λ c κs. search needs)
+    (λ c. search needs)
+    (λ c κs. search needs)
+    (λ c. search needs)
+    (λ c κs. search needs)
+    (λ c. of-call (c .before .before .call .given .1) (c .parent .ensures rel refl))
+    (λ c. of-call (c .before .before .call2 .given .1) (c .one .ensures rel refl))
+    (λ c. of-call (c .before .before .call3 .given .1) (c .packets .ensures)))

@@ -1,0 +1,76 @@
+-- The calls on relations, after spp.rs: what each declines in document 01's order, what it runs, and what it answers.
+use mathlib.Core.List.{[], _∷_}
+use Prim.Native.Nat.{ℕ, _^_}
+use lib.Dec.{ltb, eqb}
+use Rattle.nodes.specs.Store.{rel, Store, get}
+use Rattle.nodes.specs.Packets.{packet, digits, walk}
+use Rattle.nodes.specs.Programs.{Prog, mk}
+use Rattle.nodes.specs.Recursion.{x00, x01, x10, x11}
+use Rattle.nodes.specs.Operations.{zero-at-depth, one-at-depth, top-at-depth, union, intersect, xor, difference, complement, is-zero, test, assign}
+use Rattle.nodes.specs.Relations.{sequence, star, flip, naive-forward, backward}
+use Rattle.store.specs.Outcome.{Verdict, gives, runs, provided, of-one, of-two, of-four, yes-no}
+use Rattle.store.specs.declared.Refusal.the-variants.{NoChildren, OutOfRange}
+use Rattle.store.specs.declared.Answer.{Answer}
+use Rattle.store.specs.declared.Answer.the-variants.{Truth, RelationNode}
+use Rattle.store.specs.declared.relation_calls.RelationCall.{RelationCall}
+use Rattle.store.specs.declared.relation_calls.RelationCall.the-variants.{Mk, Zero, One, Top, Union, Intersect, Xor, Difference, Complement}
+use Rattle.store.specs.declared.relation_calls.RelationCall.the-variants.{Sequence, Star, Flip, Test, Assign, NaiveForward, Backward}
+use Rattle.store.specs.declared.relation_reads.RelationRead.{RelationRead}
+use Rattle.store.specs.declared.relation_reads.RelationRead.the-variants.{Get, IsZero, Relates}
+
+-- CALLS THAT MAY ADD RELATIONS. What a call declines after 1, in a store S of k fields, and then v, at its operands' level.
+-- 01, `mk`: "2; 3; 5 if the children are at level k"; `test`, `assign`: "5 if the field is k or more", and a value is 0 or 1
+abbrev pub relation-declines : ℕ → RelationCall → Store → (ℕ → Verdict) → Verdict
+relation-declines k (Mk a b c d) S v = of-four k rel S a b c d (λ l. provided OutOfRange (ltb l k) (v l))
+relation-declines k Zero S v = v k
+relation-declines k One S v = v k
+relation-declines k Top S v = v k
+relation-declines k (Union a b) S v = of-two k rel S a b v
+relation-declines k (Intersect a b) S v = of-two k rel S a b v
+relation-declines k (Xor a b) S v = of-two k rel S a b v
+relation-declines k (Difference a b) S v = of-two k rel S a b v
+relation-declines k (Complement a) S v = of-one k rel S a v
+relation-declines k (Sequence a b) S v = of-two k rel S a b v
+relation-declines k (Star a) S v = of-one k rel S a v
+relation-declines k (Flip a) S v = of-one k rel S a v
+relation-declines k (Test f b) S v = provided OutOfRange (ltb f k) (provided OutOfRange (ltb b 2) (v k))
+relation-declines k (Assign f b) S v = provided OutOfRange (ltb f k) (provided OutOfRange (ltb b 2) (v k))
+relation-declines k (NaiveForward a) S v = of-one k rel S a v
+relation-declines k (Backward a) S v = of-one k rel S a v
+
+-- what it runs, l being that level
+abbrev pub relation-program : ℕ → ℕ → RelationCall → Prog
+relation-program k l (Mk a b c d) = mk rel (a ∷ b ∷ c ∷ d ∷ [])
+relation-program k l Zero = zero-at-depth rel k
+relation-program k l One = one-at-depth rel k
+relation-program k l Top = top-at-depth k
+relation-program k l (Union a b) = union rel l a b
+relation-program k l (Intersect a b) = intersect rel l a b
+relation-program k l (Xor a b) = xor rel l a b
+relation-program k l (Difference a b) = difference rel l a b
+relation-program k l (Complement a) = complement rel l a
+relation-program k l (Sequence a b) = sequence l a b
+relation-program k l (Star a) = star l a
+relation-program k l (Flip a) = flip l a
+relation-program k l (Test f b) = test rel k f (eqb b 1)
+relation-program k l (Assign f b) = assign k f (eqb b 1)
+relation-program k l (NaiveForward a) = naive-forward l a
+relation-program k l (Backward a) = backward l a
+
+abbrev pub relation-verdict : RelationCall → ℕ → Store → Verdict
+relation-verdict c k S = relation-declines k c S (λ l. runs (relation-program k l c))
+
+-- CALLS THAT ADD NOTHING. 01, `get`: "4 for handles 0 and 1"; `relates`: "5 if a packet is 2^level or more"
+abbrev pub relation-read-declines : ℕ → RelationRead → Store → (ℕ → Verdict) → Verdict
+relation-read-declines k (Get a) S v = of-one k rel S a (λ l. provided NoChildren (ltb 0 l) (v l))
+relation-read-declines k (IsZero a) S v = of-one k rel S a v
+relation-read-declines k (Relates a p q) S v =
+    of-one k rel S a (λ l. provided OutOfRange (ltb p (2 ^ l)) (provided OutOfRange (ltb q (2 ^ l)) (v l)))
+
+abbrev pub relation-read-answer : Store → ℕ → RelationRead → Answer
+relation-read-answer S l (Get a) = (let x = get rel S a in RelationNode (x00 x) (x01 x) (x10 x) (x11 x))
+relation-read-answer S l (IsZero a) = yes-no (is-zero rel l a) S
+relation-read-answer S l (Relates a p q) = Truth (eqb (walk rel S a (digits (packet l p) (packet l q))) 1)
+
+abbrev pub relation-read-verdict : RelationRead → ℕ → Store → Verdict
+relation-read-verdict c k S = relation-read-declines k c S (λ l. gives (relation-read-answer S l c))

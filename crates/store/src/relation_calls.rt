@@ -1,0 +1,163 @@
+// The calls that may add relations.
+ghost use mathlib.Core.Path.{_≡_};
+ghost use lib.ListN.{length, replicate};
+ghost use Rattle.nodes.specs.Store.{rel};
+ghost use Rattle.memory.specs.Arena.{Performs};
+ghost use Rattle.store.specs.Memory.{memories};
+ghost use Rattle.store.specs.Outcome.{told};
+ghost use Rattle.store.specs.Calls.{relation-call, step};
+ghost use Rattle.store.specs.RelationCalls.{relation-declines, relation-program};
+ghost use Rattle.store.specs.Checking.{Checks, Ready};
+ghost use Rattle.store.specs.RelationChecking.{RelationFieldFits};
+
+// A call with its arguments, after spp.rs: handles, and for `test` and `assign` a field first; a value is 0 or 1.
+pub enum RelationCall {
+    Mk(u32, u32, u32, u32),
+    Zero,
+    One,
+    Top,
+    Union(u32, u32),
+    Intersect(u32, u32),
+    Xor(u32, u32),
+    Difference(u32, u32),
+    Complement(u32),
+    Sequence(u32, u32),
+    Star(u32),
+    Flip(u32),
+    Test(u32, u32),
+    Assign(u32, u32),
+    NaiveForward(u32),
+    Backward(u32),
+}
+
+// Whether a call may run on the first n nodes.
+fn check(nodes: &[u32], n: usize, k: u32, call: RelationCall) -> crate::Check
+    ensures { λ r. ⌜ Checks rel (now (nodes .entry)) n k (λ S v. relation-declines k call S v) r ⌝ }
+{
+    match call {
+        RelationCall::Mk(a, b, c, d) => crate::operands::four(nodes, 4, n, k, a, b, c, d),
+        RelationCall::Zero => crate::Check::Level(k),
+        RelationCall::One => crate::Check::Level(k),
+        RelationCall::Top => crate::Check::Level(k),
+        RelationCall::Union(a, b) => crate::operands::two(nodes, 4, n, k, a, b),
+        RelationCall::Intersect(a, b) => crate::operands::two(nodes, 4, n, k, a, b),
+        RelationCall::Xor(a, b) => crate::operands::two(nodes, 4, n, k, a, b),
+        RelationCall::Difference(a, b) => crate::operands::two(nodes, 4, n, k, a, b),
+        RelationCall::Complement(a) => crate::operands::one(nodes, 4, n, k, a),
+        RelationCall::Sequence(a, b) => crate::operands::two(nodes, 4, n, k, a, b),
+        RelationCall::Star(a) => crate::operands::one(nodes, 4, n, k, a),
+        RelationCall::Flip(a) => crate::operands::one(nodes, 4, n, k, a),
+        RelationCall::Test(var, value) => crate::operands::field(k, var, value),
+        RelationCall::Assign(var, value) => crate::operands::field(k, var, value),
+        RelationCall::NaiveForward(a) => crate::operands::one(nodes, 4, n, k, a),
+        RelationCall::Backward(a) => crate::operands::one(nodes, 4, n, k, a),
+    }
+}
+
+// Runs a call whose operands are of this level, in a store of k fields.
+fn perform(
+    nodes: &mut [u32],
+    work: &mut [u32],
+    s: memory::Arena,
+    k: u8,
+    level: u8,
+    call: RelationCall,
+) -> memory::Arena
+    requires { ⌜ RelationFieldFits call ⌝ }
+    ensures { λ r. ⌜ Performs rel (relation-program k level call) s
+        (now (nodes .entry)) (now (nodes .exit)) (now (work .entry)) (now (work .exit)) r ⌝ }
+{
+    match call {
+        RelationCall::Mk(a, b, c, d) => relations::mk(nodes, work, s, a, b, c, d),
+        RelationCall::Zero => relations::zero_at_depth(nodes, work, s, k),
+        RelationCall::One => relations::one_at_depth(nodes, work, s, k),
+        RelationCall::Top => relations::top_at_depth(nodes, work, s, k),
+        RelationCall::Union(a, b) => relations::union(nodes, work, s, level, a, b),
+        RelationCall::Intersect(a, b) => relations::intersect(nodes, work, s, level, a, b),
+        RelationCall::Xor(a, b) => relations::xor(nodes, work, s, level, a, b),
+        RelationCall::Difference(a, b) => relations::difference(nodes, work, s, level, a, b),
+        RelationCall::Complement(a) => relations::complement(nodes, work, s, level, a),
+        RelationCall::Sequence(a, b) => relations::products::sequence(nodes, work, s, level, a, b),
+        RelationCall::Star(a) => relations::products::star(nodes, work, s, level, a),
+        RelationCall::Flip(a) => relations::products::flip(nodes, work, s, level, a),
+        RelationCall::Test(var, value) => relations::fields::test(
+            nodes,
+            work,
+            s,
+            k,
+            crate::narrow(var),
+            value == 1,
+        ),
+        RelationCall::Assign(var, value) => relations::fields::assign(
+            nodes,
+            work,
+            s,
+            k,
+            crate::narrow(var),
+            value == 1,
+        ),
+        RelationCall::NaiveForward(a) => relations::products::naive_forward(
+            nodes,
+            work,
+            s,
+            level,
+            a,
+        ),
+        RelationCall::Backward(a) => relations::products::backward(nodes, work, s, level, a),
+    }
+}
+
+// Checks a call on a store, and runs it.
+fn judged(
+    relations: &mut [u32],
+    sets: &[u32],
+    work: &mut [u32],
+    call: RelationCall,
+) -> crate::Answer
+    requires { ⌜ Ready rel (memories (now relations) (now sets)) (now work) ⌝ }
+    ensures { λ r. ⌜ told r (memories (now (relations .exit)) (now (sets .entry)))
+        ≡ step (relation-call call) (memories (now (relations .entry)) (now (sets .entry))) ⌝ }
+{
+    let k = relations[0];
+    let n = memory::wide(relations[1]);
+    let check = check(&relations[2..], n, k, call);
+    match check {
+        crate::Check::No(r) => crate::Answer::Declined(r),
+        crate::Check::Level(l) => {
+            let s = memory::Arena {
+                ok: true,
+                n: n,
+                h: 0,
+            };
+            let r = perform(
+                &mut relations[2..],
+                work,
+                s,
+                crate::narrow(k),
+                crate::narrow(l),
+                call,
+            );
+            crate::finish::finish(relations, 2, 4, n, r)
+        }
+    }
+}
+
+// A call on any numbers in both memories.
+pub fn relation_call(
+    relations: &mut [u32],
+    sets: &[u32],
+    work: &mut [u32],
+    call: RelationCall,
+) -> crate::Answer
+    ensures { λ r. ⌜ (told r (memories (now (relations .exit)) (now (sets .entry)))
+        ≡ step (relation-call call) (memories (now (relations .entry)) (now (sets .entry))))
+        × (now (work .exit) ≡ replicate (length (now (work .entry))) 0) ⌝ }
+{
+    if !crate::judge::is_store(relations, sets, work, false) {
+        nodes::clear(work);
+        return crate::Answer::Declined(crate::Refusal::NotStore);
+    }
+    let r = judged(relations, sets, work, call);
+    nodes::clear(work);
+    r
+}

@@ -1,0 +1,120 @@
+// The calls on relations that add nothing.
+ghost use mathlib.Core.Path.{_≡_};
+ghost use Prim.Native.Nat.{ℕ, _^_, _<_, _≤_};
+ghost use lib.ListN.{length, replicate};
+ghost use Rattle.nodes.specs.Store.{rel};
+ghost use Rattle.store.specs.Memory.{memories};
+ghost use Rattle.store.specs.Outcome.{told};
+ghost use Rattle.store.specs.Calls.{relation-read, step};
+ghost use Rattle.store.specs.RelationCalls.{relation-read-declines, relation-read-answer};
+ghost use Rattle.store.specs.Checking.{Checks, Answered, Ready};
+ghost use Rattle.store.specs.RelationChecking.{RelationReadSafe, WalksPair};
+
+// A call with its arguments, after spp.rs; `relates` has a relation, an input and an output.
+pub enum RelationRead {
+    Get(u32),
+    IsZero(u32),
+    Relates(u32, u32, u32),
+}
+
+// The level of a call's operands on the first n nodes.
+fn check(nodes: &[u32], n: usize, k: u32, call: RelationRead) -> crate::Check
+    requires { ⌜ k ≤ 32 ⌝ }
+    ensures { λ r. ⌜ Checks rel (now (nodes .entry)) n k (λ S v. relation-read-declines k call S v) r ⌝ }
+{
+    match call {
+        RelationRead::Get(a) => crate::operands::parent(nodes, 4, n, k, a),
+        RelationRead::IsZero(a) => crate::operands::one(nodes, 4, n, k, a),
+        RelationRead::Relates(a, input, output) => crate::operands::packets(
+            nodes,
+            n,
+            k,
+            a,
+            input,
+            output,
+        ),
+    }
+}
+
+// Whether the walk from a handle of this level along the fields of two packets ends at 1.
+fn relates(nodes: &[u32], level: u8, a: u32, input: u32, output: u32) -> bool
+    requires { ⌜ level ≤ 32 ⌝ }
+    ensures { λ r. ⌜ WalksPair (now (nodes .entry)) level a input output r ⌝ }
+{
+    let mut h = a;
+    let mut l = level;
+    let mut unit = crate::operands::power(level);
+    while l > 0 {
+        unit = unit / 2;
+        let i = crate::operands::wide(input) / unit % 2;
+        let o = crate::operands::wide(output) / unit % 2;
+        h = memory::words::child_of(nodes, 4, h, (2 * i + o) as usize);
+        l -= 1;
+    }
+    h == 1
+}
+
+// The answer of a call whose operands are of this level, among n nodes.
+fn answer(nodes: &[u32], work: &mut [u32], n: usize, level: u8, call: RelationRead) -> crate::Answer
+    requires { ⌜ level ≤ 32 ⌝ }
+    ensures { λ r. ⌜ Answered rel (now (nodes .entry)) (now (work .entry)) n
+        (λ S. RelationReadSafe S level call) (λ S. relation-read-answer S level call) r ⌝ }
+{
+    match call {
+        RelationRead::Get(a) => {
+            let x = relations::get(nodes, a);
+            crate::Answer::RelationNode(x.x00, x.x01, x.x10, x.x11)
+        }
+        RelationRead::IsZero(a) => {
+            let s = memory::Arena {
+                ok: true,
+                n: n,
+                h: 0,
+            };
+            let r = relations::is_zero(nodes, work, s, level, a);
+            crate::Answer::Truth(r.h == 1)
+        }
+        RelationRead::Relates(a, input, output) => crate::Answer::Truth(relates(
+            nodes,
+            level,
+            a,
+            input,
+            output,
+        )),
+    }
+}
+
+// Checks a call on a store, and answers it.
+fn judged(relations: &[u32], sets: &[u32], work: &mut [u32], call: RelationRead) -> crate::Answer
+    requires { ⌜ Ready rel (memories (now relations) (now sets)) (now work) ⌝ }
+    ensures { λ r. ⌜ told r (memories (now (relations .entry)) (now (sets .entry)))
+        ≡ step (relation-read call) (memories (now (relations .entry)) (now (sets .entry))) ⌝ }
+{
+    let k = relations[0];
+    let n = memory::wide(relations[1]);
+    let check = check(&relations[2..], n, k, call);
+    match check {
+        crate::Check::No(r) => crate::Answer::Declined(r),
+        crate::Check::Level(l) => answer(&relations[2..], work, n, crate::narrow(l), call),
+    }
+}
+
+// A call on any numbers in both memories.
+pub fn relation_read(
+    relations: &[u32],
+    sets: &[u32],
+    work: &mut [u32],
+    call: RelationRead,
+) -> crate::Answer
+    ensures { λ r. ⌜ (told r (memories (now (relations .entry)) (now (sets .entry)))
+        ≡ step (relation-read call) (memories (now (relations .entry)) (now (sets .entry))))
+        × (now (work .exit) ≡ replicate (length (now (work .entry))) 0) ⌝ }
+{
+    if !crate::judge::is_store(relations, sets, work, false) {
+        nodes::clear(work);
+        return crate::Answer::Declined(crate::Refusal::NotStore);
+    }
+    let r = judged(relations, sets, work, call);
+    nodes::clear(work);
+    r
+}
