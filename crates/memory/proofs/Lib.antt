@@ -7,6 +7,7 @@ pub mod Known
 pub mod Children
 pub mod Walks
 pub mod Steps
+pub mod Beside
 pub mod Remembering
 pub mod Joining
 pub mod Looking

@@ -44,7 +44,7 @@ module _ {m w : List ℕ} {n l : ℕ} {c : SetRead} where
   reads-truth {p} {r} o e s y P = record {
     answer = λ B f R t.
         let S = plain set B m n in
-        let T = P .runs B (record { room = f; live = λ _. record { safe = s S (subst (ReadSafe S l) e t); work = R } }) in
+        let T = P .runs B tt (record { room = f; live = λ _. record { safe = s S (subst (ReadSafe S l) e t); work = R } }) in
         let k : r .ok ≡ true = T .okay ∙ fits set p S (places 2 m) o (subst (λ z. z ≤ places 2 m) (sym (plain-length set B m n)) f) in
         ap (λ h. Truth (eqb h 1)) (T .done k .value) ∙ sym (ap (read-answer S l) e ∙ y S);
   }
