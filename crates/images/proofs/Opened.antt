@@ -2,8 +2,9 @@
 use mathlib.Core.Path.{_≡_, refl}
 use Prim.Native.Nat.{ℕ}
 use Rattle.nodes.specs.Images.{fwd-op, fwd, bwd-op, bwd, ifwd-op, ifwd, diagonal-op, diagonal}
+use Rattle.nodes.specs.Images.{image-short, push-op, push, pull-op, pull}
 use Rattle.nodes.specs.Programs.{less, ret, ask}
-use Rattle.nodes.specs.Recursion.{node1, op1}
+use Rattle.nodes.specs.Recursion.{node1, op1, node2, op2}
 use Rattle.memory.specs.Memo.{memo-program}
 
 -- OPERATIONS on one; the memo's second operand says nothing of them
@@ -39,3 +40,21 @@ module _ (l a : ℕ) where
   pub diagonal-memo : node1 diagonal-op l a ≡ memo-program 17 l a 0
   unfolding memo-program
   diagonal-memo = refl
+
+-- OPERATIONS on a set p and a relation a
+module _ (l p a : ℕ) where
+  pub push-is : push l p a ≡ image-short l p a (fwd l a) (node2 push-op l p a)
+  unfolding push op2
+  push-is = refl
+
+  pub pull-is : pull l a p ≡ image-short l p a (bwd l a) (node2 pull-op l a p)
+  unfolding pull op2
+  pull-is = refl
+
+  pub push-memo : node2 push-op l p a ≡ memo-program 18 l p a
+  unfolding memo-program
+  push-memo = refl
+
+  pub pull-memo : node2 pull-op l a p ≡ memo-program 19 l a p
+  unfolding memo-program
+  pull-memo = refl

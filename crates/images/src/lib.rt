@@ -8,6 +8,7 @@ ghost use Rattle.nodes.specs.Images.{two-unions, fwd, bwd};
 ghost use Rattle.memory.specs.Arena.{Performs, PerformsOn, Beside};
 
 pub mod filters;
+pub mod moves;
 
 // The operations' numbers in the memo.
 const FWD: u32 = 14;
