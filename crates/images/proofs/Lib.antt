@@ -1,3 +1,4 @@
 pub mod Opened
 pub mod Children
 pub mod Moving
+pub mod Leading

@@ -1,6 +1,4 @@
 // Sets as relations: what leads into a set, out of it, and the filter of its packets.
-ghost use mathlib.Core.Path.{_≡_};
-ghost use mathlib.Core.List.{List, [], _∷_};
 ghost use Prim.Native.Nat.{ℕ};
 ghost use Rattle.nodes.specs.Store.{rel};
 ghost use Rattle.nodes.specs.Images.{ifwd, ibwd, diagonal};

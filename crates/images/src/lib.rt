@@ -1,7 +1,5 @@
 // The operations between relations and sets, after spp.rs. Each reads the nodes of both kinds in lent slices, adds nodes of one, and runs its
 // program of `nodes` for every working memory.
-ghost use mathlib.Core.Path.{_≡_};
-ghost use mathlib.Core.List.{List, [], _∷_};
 ghost use Prim.Native.Nat.{ℕ};
 ghost use Rattle.nodes.specs.Store.{set};
 ghost use Rattle.nodes.specs.Images.{two-unions, fwd, bwd};
@@ -9,6 +7,7 @@ ghost use Rattle.memory.specs.Arena.{Performs, PerformsOn, Beside};
 
 pub mod filters;
 pub mod moves;
+pub mod paths;
 
 // The operations' numbers in the memo.
 const FWD: u32 = 14;

@@ -1,6 +1,5 @@
 // A set of packets moved along a relation, or back.
 ghost use mathlib.Core.Path.{_≡_};
-ghost use mathlib.Core.List.{List, [], _∷_};
 ghost use Prim.Native.Nat.{ℕ, _<_, min};
 ghost use Rattle.nodes.specs.Store.{set};
 ghost use Rattle.nodes.specs.Programs.{Prog};

@@ -1,17 +1,17 @@
 -- `bwd` runs its program; the measure is the level.
-use borrow.Author.Needs.{needs}
 use Prim.Native.Nat.{ℕ, _<_}
 use native.Mathlib.Omega.{arith}
+use borrow.Author.Needs.{needs}
 use borrow.Author.Tests.{lt-ltb, le-ltb, not-true, not-false}
-use Rattle.nodes.proofs.Recursion.{node1-zero}
-use Rattle.memory.proofs.Remembering.{recalled}
-use Rattle.nodes.specs.Images.{bwd-op, bwd as bwd-program}
-use Rattle.memory.proofs.Steps.{performs-stuck, performs-on, begin, by, yes, no, impossible, less-says, given}
-use Rattle.images.proofs.Opened.{bwd-is, bwd-memo}
-use Rattle.relations.proofs.Children.{four-returns}
-use Rattle.images.proofs.Children.{opened}
 use borrow.Fn.Kinds.{In}
 use borrow.Fn.PlainCycle.{Measures, is, falls, and}
+use Rattle.nodes.specs.Images.{bwd-op, bwd as bwd-program}
+use Rattle.nodes.proofs.Recursion.{node1-zero}
+use Rattle.memory.proofs.Remembering.{recalled}
+use Rattle.memory.proofs.Steps.{performs-stuck, performs-on, begin, by, yes, no, impossible, less-says, given}
+use Rattle.relations.proofs.Children.{four-returns}
+use Rattle.images.proofs.Children.{opened}
+use Rattle.images.proofs.Opened.{bwd-is, bwd-memo}
 use Rattle.images.proofs.bwd.Reads as bwd
 use Rattle.images.proofs.bwd.Kinds as bwd-kinds
 use Rattle.images.proofs.+bwd.Lts-bwd as bwd-lts

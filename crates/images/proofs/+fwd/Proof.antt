@@ -1,17 +1,17 @@
 -- `fwd` runs its program; the measure is the level.
-use borrow.Author.Needs.{needs}
 use Prim.Native.Nat.{ℕ, _<_}
 use native.Mathlib.Omega.{arith}
+use borrow.Author.Needs.{needs}
 use borrow.Author.Tests.{lt-ltb, le-ltb, not-true, not-false}
-use Rattle.nodes.proofs.Recursion.{node1-zero}
-use Rattle.memory.proofs.Remembering.{recalled}
-use Rattle.nodes.specs.Images.{fwd-op, fwd as fwd-program}
-use Rattle.memory.proofs.Steps.{performs-stuck, performs-on, begin, by, yes, no, impossible, less-says, given}
-use Rattle.images.proofs.Opened.{fwd-is, fwd-memo}
-use Rattle.relations.proofs.Children.{four-returns}
-use Rattle.images.proofs.Children.{opened}
 use borrow.Fn.Kinds.{In}
 use borrow.Fn.PlainCycle.{Measures, is, falls, and}
+use Rattle.nodes.specs.Images.{fwd-op, fwd as fwd-program}
+use Rattle.nodes.proofs.Recursion.{node1-zero}
+use Rattle.memory.proofs.Remembering.{recalled}
+use Rattle.memory.proofs.Steps.{performs-stuck, performs-on, begin, by, yes, no, impossible, less-says, given}
+use Rattle.relations.proofs.Children.{four-returns}
+use Rattle.images.proofs.Children.{opened}
+use Rattle.images.proofs.Opened.{fwd-is, fwd-memo}
 use Rattle.images.proofs.fwd.Reads as fwd
 use Rattle.images.proofs.fwd.Kinds as fwd-kinds
 use Rattle.images.proofs.+fwd.Lts-fwd as fwd-lts

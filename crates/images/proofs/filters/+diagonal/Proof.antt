@@ -1,16 +1,16 @@
 -- `diagonal` runs its program; the measure is the level.
-use borrow.Author.Needs.{needs}
 use Prim.Native.Nat.{ℕ, _<_}
 use native.Mathlib.Omega.{arith}
+use borrow.Author.Needs.{needs}
 use borrow.Author.Tests.{lt-ltb, le-ltb, not-true, not-false}
-use Rattle.nodes.proofs.Recursion.{node1-zero}
-use Rattle.memory.proofs.Remembering.{recalled}
-use Rattle.nodes.specs.Images.{diagonal-op, diagonal as diagonal-program}
-use Rattle.memory.proofs.Steps.{performs-stuck, performs-on, performs-then, begin, by, yes, no, impossible, less-says, given}
-use Rattle.images.proofs.Opened.{diagonal-is, diagonal-memo}
-use Rattle.images.proofs.Children.{opened, two-returns}
 use borrow.Fn.Kinds.{In}
 use borrow.Fn.PlainCycle.{Measures, is, falls, and}
+use Rattle.nodes.specs.Images.{diagonal-op, diagonal as diagonal-program}
+use Rattle.nodes.proofs.Recursion.{node1-zero}
+use Rattle.memory.proofs.Remembering.{recalled}
+use Rattle.memory.proofs.Steps.{performs-stuck, performs-on, performs-then, begin, by, yes, no, impossible, less-says, given}
+use Rattle.images.proofs.Children.{opened, two-returns}
+use Rattle.images.proofs.Opened.{diagonal-is, diagonal-memo}
 use Rattle.images.proofs.filters.diagonal.Reads as diagonal
 use Rattle.images.proofs.filters.diagonal.Kinds as diagonal-kinds
 use Rattle.images.proofs.filters.+diagonal.Lts-diagonal as diagonal-lts

@@ -1,16 +1,16 @@
 -- `ifwd` runs its program; the measure is the level.
-use borrow.Author.Needs.{needs}
 use Prim.Native.Nat.{ℕ, _<_}
 use native.Mathlib.Omega.{arith}
+use borrow.Author.Needs.{needs}
 use borrow.Author.Tests.{lt-ltb, le-ltb, not-true, not-false}
-use Rattle.nodes.proofs.Recursion.{node1-zero}
-use Rattle.memory.proofs.Remembering.{recalled}
-use Rattle.nodes.specs.Images.{ifwd-op, ifwd as ifwd-program}
-use Rattle.memory.proofs.Steps.{performs-stuck, performs-on, begin, by, yes, no, impossible, less-says, given}
-use Rattle.images.proofs.Opened.{ifwd-is, ifwd-memo}
-use Rattle.images.proofs.Children.{opened, two-returns}
 use borrow.Fn.Kinds.{In}
 use borrow.Fn.PlainCycle.{Measures, is, falls, and}
+use Rattle.nodes.specs.Images.{ifwd-op, ifwd as ifwd-program}
+use Rattle.nodes.proofs.Recursion.{node1-zero}
+use Rattle.memory.proofs.Remembering.{recalled}
+use Rattle.memory.proofs.Steps.{performs-stuck, performs-on, begin, by, yes, no, impossible, less-says, given}
+use Rattle.images.proofs.Children.{opened, two-returns}
+use Rattle.images.proofs.Opened.{ifwd-is, ifwd-memo}
 use Rattle.images.proofs.filters.ifwd.Reads as ifwd
 use Rattle.images.proofs.filters.ifwd.Kinds as ifwd-kinds
 use Rattle.images.proofs.filters.+ifwd.Lts-ifwd as ifwd-lts

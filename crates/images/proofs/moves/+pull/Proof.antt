@@ -1,16 +1,16 @@
 -- `pull` runs its program; the measure is the level.
-use borrow.Author.Needs.{needs}
 use Prim.Native.Nat.{ℕ, _<_}
 use native.Mathlib.Omega.{arith}
+use borrow.Author.Needs.{needs}
 use borrow.Author.Tests.{not-true, not-false}
+use borrow.Fn.Kinds.{In}
+use borrow.Fn.PlainCycle.{Measures, is, falls, and}
 use Rattle.nodes.specs.Images.{pull-op}
 use Rattle.nodes.proofs.Recursion.{node2-zero}
 use Rattle.memory.proofs.Steps.{performs-stuck, performs-on, by, called, impossible, given}
 use Rattle.relations.proofs.Children.{four-returns}
-use Rattle.images.proofs.Opened.{pull-is, pull-memo}
 use Rattle.images.proofs.Moving.{tested, answer-left, zero-left, one-left, whole-left, node-left, pull-opened}
-use borrow.Fn.Kinds.{In}
-use borrow.Fn.PlainCycle.{Measures, is, falls, and}
+use Rattle.images.proofs.Opened.{pull-is, pull-memo}
 use Rattle.images.proofs.moves.pull.Reads as pull
 use Rattle.images.proofs.moves.pull.Kinds as pull-kinds
 use Rattle.images.proofs.moves.+pull.Lts-pull as pull-lts

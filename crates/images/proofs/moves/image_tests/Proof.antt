@@ -1,6 +1,6 @@
 -- `image_tests` knows what the properties and the memo say of an image.
-use borrow.Author.Needs.{needs}
 use mathlib.Core.Path.{refl, sym, ap}
+use borrow.Author.Needs.{needs}
 use borrow.Author.Tests.{lt-ltb, le-ltb}
 use Rattle.nodes.specs.Programs.{ret}
 use Rattle.nodes.specs.Store.{set, rel}
