@@ -7,7 +7,9 @@ pub mod Known
 pub mod Children
 pub mod Walks
 pub mod Steps
+pub mod Beside
 pub mod Remembering
 pub mod Joining
 pub mod Looking
 pub mod Starting
+pub mod Descending

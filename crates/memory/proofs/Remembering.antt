@@ -16,12 +16,12 @@ use Rattle.nodes.proofs.Settle.{settled}
 use Rattle.memory.specs.declared.Arena.{Arena}
 use Rattle.memory.specs.declared.Found.{Found}
 use Rattle.memory.specs.declared.Found.the-variants.{Answer, Operands}
-use Rattle.memory.specs.Arena.{Ready, Performs, Left, answered, Answers, Recalls, Keeps, Remembered}
+use Rattle.memory.specs.Arena.{Ready, Condition, PerformsOn, Left, StandsOn, answered, AnswersOn, Recalls, Keeps, Remembered}
 use Rattle.memory.specs.Memo.{memo-program}
 use Rattle.memory.specs.Rows.{row, places, plain}
 use Rattle.memory.specs.Working.{memo-size, links-at, words-at, Indexed, Known, tag, Entry, Remembers, Right}
 use Rattle.memory.proofs.Parts.{drop-at-same}
-use Rattle.memory.proofs.Steps.{was-ok, done-ran, Stands, turn, called}
+use Rattle.memory.proofs.Steps.{was-ok, done-ran, turn, called}
 
 -- index and words stand behind the memo
 module _ (w w′ : List ℕ) (long : length w′ ≡ length w) (rest : drop (memo-size (length w)) w′ ≡ drop (memo-size (length w)) w) where
@@ -59,11 +59,11 @@ memo-kept {op} {l} {a} {b} {h} {w} {w′} {S} i k s m j f = elim (k .entries j (
 ]
 
 -- a call that runs an operation of the memo's table may keep its answer there
-pub performs-remember : {K : Kind} {p : Prog} {s r : Arena} {m m′ w w₁ w₂ : List ℕ} (op l a b : ℕ) → p ≡ memo-program op l a b → l < 256
-    → Performs K p s m m′ w w₁ r
-    → Remembered r op l a b w₁ w₂ → Performs K p s m m′ w w₂ r
-performs-remember {K} {p} {s} {r} {m} {m′} {w} {w₁} {w₂} op l a b e i d k = record {
-  runs = λ B R. let c = d .runs B R in record {
+pub performs-remember : {Q : Condition} {K : Kind} {p : Prog} {s r : Arena} {m m′ w w₁ w₂ : List ℕ} (op l a b : ℕ) → p ≡ memo-program op l a b → l < 256
+    → PerformsOn Q K p s m m′ w w₁ r
+    → Remembered r op l a b w₁ w₂ → PerformsOn Q K p s m m′ w w₂ r
+performs-remember {Q} {K} {p} {s} {r} {m} {m′} {w} {w₁} {w₂} op l a b e i d k = record {
+  runs = λ B q R. let c = d .runs B q R in record {
     okay = c .okay;
     done = λ t. let f = c .done t in let g = k .kept t in record {
       store = f .store;
@@ -71,7 +71,7 @@ performs-remember {K} {p} {s} {r} {m} {m′} {w} {w₁} {w₂} op l a b e i d k 
       work = record {
         fields = f .work .fields;
         formed = f .work .formed;
-        memo = memo-kept i g (answer B R t) (f .work .memo);
+        memo = memo-kept i g (answer B q R t) (f .work .memo);
         index = index-behind w₁ w₂ (g .wide) (g .rest) (f .work .index);
         words = λ J i x y. subst (λ v. Known J (plain K B m′ (r .n)) (handle-of J 0 i) v) (sym (word-behind w₁ w₂ (g .wide) (g .rest) J i))
             (f .work .words J i x y);
@@ -83,35 +83,36 @@ performs-remember {K} {p} {s} {r} {m} {m′} {w} {w₁} {w₂} op l a b e i d k 
   };
 }
   where
-    answer : (B : Store) → Ready K p B s m w → r .ok ≡ true → Settled (memo-program op l a b) (plain K B m′ (r .n)) (r .h)
-    answer B R t =
-        let c = d .runs B R in
+    answer : (B : Store) → Q B → Ready K p B s m w → r .ok ≡ true → Settled (memo-program op l a b) (plain K B m′ (r .n)) (r .h)
+    answer B q R t =
+        let c = d .runs B q R in
         let S = plain K B m (s .n) in
         subst (λ q. Settled q (plain K B m′ (r .n)) (r .h)) e
         (subst (λ (Q : Ran). Settled p (Q .store) (Q .value)) (sym (done-ran c t)) (settled p S (R .live (was-ok c t) .safe)))
 
 -- what is left is done and kept in the memo
-pub called-kept : {K : Kind} {p n : Prog} {s r q : Arena} {m m′ w w₁ w₂ : List ℕ} (op l a b : ℕ) → s .ok ≡ true → l < 256 → n ≡ memo-program op l a b
-    → Stands K p n m w → Performs K n s m m′ w w₁ r → (q ≡ r) × Remembered r op l a b w₁ w₂ → Performs K p s m m′ w w₂ q
-called-kept {K} {p} {s = s} {m = m} {m′ = m′} {w = w} {w₂ = w₂} op l a b ok i e u d k =
-    subst (λ z. Performs K p s m m′ w w₂ z) (sym (k .0)) (called ok u (performs-remember op l a b e i d (k .1)))
+pub called-kept : {Q : Condition} {K : Kind} {p n : Prog} {s r q : Arena} {m m′ w w₁ w₂ : List ℕ} (op l a b : ℕ) → s .ok ≡ true → l < 256
+    → n ≡ memo-program op l a b → StandsOn Q K p n m w → PerformsOn Q K n s m m′ w w₁ r → (q ≡ r) × Remembered r op l a b w₁ w₂ → PerformsOn Q K p s m m′ w w₂ q
+called-kept {Q} {K} {p} {s = s} {m = m} {m′ = m′} {w = w} {w₂ = w₂} op l a b ok i e u d k =
+    subst (λ z. PerformsOn Q K p s m m′ w w₂ z) (sym (k .0)) (called ok u (performs-remember op l a b e i d (k .1)))
 
 -- the memo knows the answer of what is left
-pub recalled : {K : Kind} {p q : Prog} {m w : List ℕ} {h : ℕ} {r : Found} (op l a b : ℕ) → q ≡ memo-program op l a b → Stands K p q m w
-    → Recalls w op l a b r → r ≡ Answer h → Stands K p (ret h) m w
+pub recalled : {Q : Condition} {K : Kind} {p q : Prog} {m w : List ℕ} {h : ℕ} {r : Found} (op l a b : ℕ) → q ≡ memo-program op l a b → StandsOn Q K p q m w
+    → Recalls w op l a b r → r ≡ Answer h → StandsOn Q K p (ret h) m w
 unfolding run Safe
-recalled {K} {m = m} {h = h} op l a b e u k f = turn u (λ B n i x R. record {
+recalled {K = K} {m = m} {h = h} op l a b e u k f = turn u (λ B c n i x R. record {
   runs = ap (λ z. run z (plain K B m n)) e ∙ k .recalls (plain K B m n) h (R .memo) f;
   safe = tt;
 })
 
 -- shortcuts that leave a node ask the memo
-pub answer-recalled : {K : Kind} {p : Prog} {node : ℕ → ℕ → Prog} {m w : List ℕ} {r : Found} (op l a b : ℕ) → node a b ≡ memo-program op l a b
-    → Stands K p (node a b) m w → Recalls w op l a b r → Answers K p node m w r
+pub answer-recalled : {Q : Condition} {K : Kind} {p : Prog} {node : ℕ → ℕ → Prog} {m w : List ℕ} {r : Found} (op l a b : ℕ) → node a b ≡ memo-program op l a b
+    → StandsOn Q K p (node a b) m w → Recalls w op l a b r → AnswersOn Q K p node m w r
 unfolding run
-answer-recalled {K} {p} {node} {m} {w} {r} op l a b e u k = record { answers = λ B n i s R. go B n i s R r refl }
+answer-recalled {Q} {K} {p} {node} {m} {w} {r} op l a b e u k = record { answers = λ B c n i s R. go B c n i s R r refl }
   where
-    go : (B : Store) (n : ℕ) → n ≤ places (arity K) m → Safe p (plain K B m n) → Right K B w m n → (z : Found) → r ≡ z → answered p node (plain K B m n) z
-    go B n i s R (Answer h) f = recalled op l a b e u k f .left B n i s R .runs
-    go B n i s R (Operands x y) f = let q = k .else x y f in
-        subst (λ x. Left p (node x y) (plain K B m n)) (sym (q .0)) (subst (λ y. Left p (node a y) (plain K B m n)) (sym (q .1)) (u .left B n i s R))
+    go : (B : Store) → Q B → (n : ℕ) → n ≤ places (arity K) m → Safe p (plain K B m n) → Right K B w m n → (z : Found) → r ≡ z
+        → answered p node (plain K B m n) z
+    go B c n i s R (Answer h) f = recalled op l a b e u k f .left B c n i s R .runs
+    go B c n i s R (Operands x y) f = let q = k .else x y f in
+        subst (λ x. Left p (node x y) (plain K B m n)) (sym (q .0)) (subst (λ y. Left p (node a y) (plain K B m n)) (sym (q .1)) (u .left B c n i s R))

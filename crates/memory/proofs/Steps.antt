@@ -1,4 +1,5 @@
--- Laws for functions that run a program on the nodes of one kind: what is left of it where the function stands, and each kind of return.
+-- Laws for functions that run a program on the nodes of one kind, over each store with a condition Q: what is left of it where the function
+-- stands, and each kind of return.
 use mathlib.Core.Path.{_≡_, refl, sym, ap, _∙_, subst}
 use mathlib.Core.List.{List}
 use mathlib.Core.Bool.{Bool, true, false, _&&_}
@@ -19,7 +20,7 @@ use Rattle.memory.specs.declared.Arena.{Arena}
 use Rattle.memory.specs.declared.Properties.{Properties}
 use Rattle.memory.specs.declared.Found.{Found}
 use Rattle.memory.specs.declared.Found.the-variants.{Answer, Operands}
-use Rattle.memory.specs.Arena.{arena, Ready, ends, Writes, Runs, Performs, Left, answered, Answers, Looks, Tells}
+use Rattle.memory.specs.Arena.{arena, Ready, ends, Writes, Runs, Condition, PerformsOn, Performs, Left, StandsOn, answered, AnswersOn, Looks, Tells}
 use Rattle.memory.specs.Rows.{places, plain}
 use Rattle.memory.specs.Working.{Right}
 use Rattle.memory.proofs.Rows.{plain-length}
@@ -58,10 +59,14 @@ and-left true b e = refl
 and-left false b e = e
 
 -- nothing is done after a failure
-pub performs-stuck : {K : Kind} {p : Prog} {s : Arena} {m w : List ℕ} → s .ok ≡ false → Performs K p s m m w w s
+pub performs-stuck : {Q : Condition} {K : Kind} {p : Prog} {s : Arena} {m w : List ℕ} → s .ok ≡ false → PerformsOn Q K p s m m w w s
 performs-stuck e = record {
-  runs = λ B R. record { okay = rw e; done = λ t. absurd (false≢true (sym e ∙ t)); writes = writes-same (R .room); wide = refl };
+  runs = λ B c R. record { okay = rw e; done = λ t. absurd (false≢true (sym e ∙ t)); writes = writes-same (R .room); wide = refl };
 }
+
+-- what holds over every store holds over those with Q
+pub performs-on : {Q : Condition} {K : Kind} {p : Prog} {s r : Arena} {m m′ w w′ : List ℕ} → Performs K p s m m′ w w′ r → PerformsOn Q K p s m m′ w w′ r
+performs-on d = record { runs = λ B c R. d .runs B tt R }
 
 -- TWO CALLS, one after the other
 pub ext-longer : (K : Kind) {S S′ : Store} → Extends S S′ → length (nodes K S) ≤ length (nodes K S′)
@@ -87,15 +92,15 @@ module _ {K : Kind} {p : Prog} {B : Store} {s r : Arena} {m m′ w w′ : List �
   pub done-ran : r .ok ≡ true → ran (plain K B m′ (r .n)) (r .h) ≡ run p (plain K B m (s .n))
   done-ran t i = ran (d .done t .store i) (d .done t .value i)
 
-module _ {K : Kind} {p : Prog} {f : ℕ → Prog} {s r₁ r₂ : Arena} {m m₁ m₂ w w₁ w₂ : List ℕ} (d : Performs K p s m m₁ w w₁ r₁)
-    (e : Performs K (f (r₁ .h)) r₁ m₁ m₂ w₁ w₂ r₂) (B : Store) (R : Ready K (bind p f) B s m w) where
+module _ {Q : Condition} {K : Kind} {p : Prog} {f : ℕ → Prog} {s r₁ r₂ : Arena} {m m₁ m₂ w w₁ w₂ : List ℕ} (d : PerformsOn Q K p s m m₁ w w₁ r₁)
+    (e : PerformsOn Q K (f (r₁ .h)) r₁ m₁ m₂ w₁ w₂ r₂) (B : Store) (c : Q B) (R : Ready K (bind p f) B s m w) where
   first-runs : Runs K p B s m m₁ w w₁ r₁
   unfolding Safe
-  first-runs = d .runs B (record { room = R .room; live = λ t. record { safe = R .live t .safe .0; work = R .live t .work } })
+  first-runs = d .runs B c (record { room = R .room; live = λ t. record { safe = R .live t .safe .0; work = R .live t .work } })
 
   second-runs : Runs K (f (r₁ .h)) B r₁ m₁ m₂ w₁ w₂ r₂
   unfolding Safe
-  second-runs = let a = first-runs in e .runs B (record {
+  second-runs = let a = first-runs in e .runs B c (record {
     room = subst (λ n. r₁ .n ≤ n) (sym (places-same (arity K) m m₁ (a .writes .long))) (a .writes .most);
     live = λ t. record {
       safe = subst (λ (Q : Ran). Safe (f (Q .value)) (Q .store)) (sym (done-ran a t)) (R .live (was-ok a t) .safe .1);
@@ -130,58 +135,54 @@ module _ {K : Kind} {p : Prog} {f : ℕ → Prog} {s r₁ r₂ : Arena} {m m₁ 
     wide = b .wide ∙ a .wide;
   }
 
-pub performs-then : {K : Kind} {p : Prog} {f : ℕ → Prog} {s r₁ r₂ : Arena} {m m₁ m₂ w w₁ w₂ : List ℕ} → Performs K p s m m₁ w w₁ r₁
-    → Performs K (f (r₁ .h)) r₁ m₁ m₂ w₁ w₂ r₂ → Performs K (bind p f) s m m₂ w w₂ r₂
-performs-then d e = record { runs = λ B R. both-runs d e B R }
-
--- STANDS: a function that began with p stands before q, over every store that it may be given
-pub record Stands (K : Kind) (p q : Prog) (m w : List ℕ) : Type 0 where
-  pub left : (B : Store) (n : ℕ) → n ≤ places (arity K) m → Safe p (plain K B m n) → Right K B w m n → Left p q (plain K B m n)
+pub performs-then : {Q : Condition} {K : Kind} {p : Prog} {f : ℕ → Prog} {s r₁ r₂ : Arena} {m m₁ m₂ w w₁ w₂ : List ℕ} → PerformsOn Q K p s m m₁ w w₁ r₁
+    → PerformsOn Q K (f (r₁ .h)) r₁ m₁ m₂ w₁ w₂ r₂ → PerformsOn Q K (bind p f) s m m₂ w w₂ r₂
+performs-then d e = record { runs = λ B c R. both-runs d e B c R }
 
 -- the test t has the answer b wherever it may be made
-pub record Decides (K : Kind) (m w : List ℕ) (t : Test) (b : Bool) : Type 0 where
-  pub decides : (B : Store) (n : ℕ) → n ≤ places (arity K) m → Right K B w m n → Sure t (plain K B m n) → holds t (plain K B m n) ≡ b
+pub record Decides (Q : Condition) (K : Kind) (m w : List ℕ) (t : Test) (b : Bool) : Type 0 where
+  pub decides : (B : Store) → Q B → (n : ℕ) → n ≤ places (arity K) m → Right K B w m n → Sure t (plain K B m n) → holds t (plain K B m n) ≡ b
 
-module _ {K : Kind} {p : Prog} {m w : List ℕ} where
-  pub begin : Stands K p p m w
-  begin = record { left = λ B n l a R. record { runs = refl; safe = a } }
+module _ {Q : Condition} {K : Kind} {p : Prog} {m w : List ℕ} where
+  pub begin : StandsOn Q K p p m w
+  begin = record { left = λ B c n l a R. record { runs = refl; safe = a } }
 
-  pub turn : {q q′ : Prog} → Stands K p q m w
-      → ((B : Store) (n : ℕ) → n ≤ places (arity K) m → Safe q (plain K B m n) → Right K B w m n → Left q q′ (plain K B m n)) → Stands K p q′ m w
+  pub turn : {q q′ : Prog} → StandsOn Q K p q m w
+      → ((B : Store) → Q B → (n : ℕ) → n ≤ places (arity K) m → Safe q (plain K B m n) → Right K B w m n → Left q q′ (plain K B m n)) → StandsOn Q K p q′ m w
   turn u f = record {
-    left = λ B n l a R. let x = u .left B n l a R in let y = f B n l (x .safe) R in record { runs = x .runs ∙ y .runs; safe = y .safe };
+    left = λ B c n l a R. let x = u .left B c n l a R in let y = f B c n l (x .safe) R in record { runs = x .runs ∙ y .runs; safe = y .safe };
   }
 
-  pub further : {q q′ : Prog} → Stands K p q m w → Stands K q q′ m w → Stands K p q′ m w
-  further u v = turn u (λ B n l a R. v .left B n l a R)
+  pub further : {q q′ : Prog} → StandsOn Q K p q m w → StandsOn Q K q q′ m w → StandsOn Q K p q′ m w
+  further u v = turn u (λ B c n l a R. v .left B c n l a R)
 
   -- the same program by another name
-  pub by : {q q′ : Prog} → Stands K p q m w → q ≡ q′ → Stands K p q′ m w
-  by {q} u e = turn u (λ B n l a R. subst (λ x. Left q x (plain K B m n)) e (record { runs = refl; safe = a }))
+  pub by : {q q′ : Prog} → StandsOn Q K p q m w → q ≡ q′ → StandsOn Q K p q′ m w
+  by {q} u e = turn u (λ B c n l a R. subst (λ x. Left q x (plain K B m n)) e (record { runs = refl; safe = a }))
 
   -- the test holds; it does not
-  pub yes : {t : Test} {q q′ : Prog} → Stands K p (ask t q q′) m w → Decides K m w t true → Stands K p q m w
+  pub yes : {t : Test} {q q′ : Prog} → StandsOn Q K p (ask t q q′) m w → Decides Q K m w t true → StandsOn Q K p q m w
   unfolding run Safe
-  yes u f = turn u (λ B n l a R. let e = f .decides B n l R (a .0) in record { runs = rw e; safe = rw e at (a .1) })
+  yes u f = turn u (λ B c n l a R. let e = f .decides B c n l R (a .0) in record { runs = rw e; safe = rw e at (a .1) })
 
-  pub no : {t : Test} {q q′ : Prog} → Stands K p (ask t q q′) m w → Decides K m w t false → Stands K p q′ m w
+  pub no : {t : Test} {q q′ : Prog} → StandsOn Q K p (ask t q q′) m w → Decides Q K m w t false → StandsOn Q K p q′ m w
   unfolding run Safe
-  no u f = turn u (λ B n l a R. let e = f .decides B n l R (a .0) in record { runs = rw e; safe = rw e at (a .1) })
+  no u f = turn u (λ B c n l a R. let e = f .decides B c n l R (a .0) in record { runs = rw e; safe = rw e at (a .1) })
 
   -- the children of h are x
-  pub looked : {f : List ℕ → Prog} {h : ℕ} {x : List ℕ} → Stands K p (look K h f) m w → Looks K m h x → Stands K p (f x) m w
+  pub looked : {f : List ℕ → Prog} {h : ℕ} {x : List ℕ} → StandsOn Q K p (look K h f) m w → Looks K m h x → StandsOn Q K p (f x) m w
   unfolding run Safe
-  looked {f} u k = turn u (λ B n l a R. let e = k .kids B n l (a .0) in record {
+  looked {f} u k = turn u (λ B c n l a R. let e = k .kids B n l (a .0) in record {
     runs = ap (λ y. run (f y) (plain K B m n)) e;
     safe = subst (λ y. Safe (f y) (plain K B m n)) e (a .1);
   })
 
   -- RETURNS: all that is left is done by a call; a number is left; nothing can be left at level 0
-  pub called : {q : Prog} {s r : Arena} {m′ w′ : List ℕ} → s .ok ≡ true → Stands K p q m w → Performs K q s m m′ w w′ r → Performs K p s m m′ w w′ r
+  pub called : {q : Prog} {s r : Arena} {m′ w′ : List ℕ} → s .ok ≡ true → StandsOn Q K p q m w → PerformsOn Q K q s m m′ w w′ r → PerformsOn Q K p s m m′ w w′ r
   unfolding ends
   called {s = s} ok u d = record {
-    runs = λ B R. let F = R .live ok in let a = u .left B (s .n) (R .room) (F .safe) (F .work) in
-        let b = d .runs B (record { room = R .room; live = λ t. record { safe = a .safe; work = F .work } }) in record {
+    runs = λ B c R. let F = R .live ok in let a = u .left B c (s .n) (R .room) (F .safe) (F .work) in
+        let b = d .runs B c (record { room = R .room; live = λ t. record { safe = a .safe; work = F .work } }) in record {
           okay = b .okay ∙ ap (λ (Q : Ran). s .ok && leb (length (nodes K (Q .store))) (places (arity K) m)) (sym (a .runs));
           done = λ t. record {
             store = b .done t .store ∙ ap (λ (Q : Ran). Q .store) (sym (a .runs));
@@ -193,32 +194,33 @@ module _ {K : Kind} {p : Prog} {m w : List ℕ} where
         };
   }
 
-  pub impossible : {s r : Arena} {m′ w′ : List ℕ} → s .ok ≡ true → Stands K p panic m w → Performs K p s m m′ w w′ r
+  pub impossible : {s r : Arena} {m′ w′ : List ℕ} → s .ok ≡ true → StandsOn Q K p panic m w → PerformsOn Q K p s m m′ w w′ r
   unfolding Safe
-  impossible {s = s} ok u = record { runs = λ B R. let F = R .live ok in absurd (u .left B (s .n) (R .room) (F .safe) (F .work) .safe) }
+  impossible {s = s} ok u = record { runs = λ B c R. let F = R .live ok in absurd (u .left B c (s .n) (R .room) (F .safe) (F .work) .safe) }
 
 -- tests on numbers, and on the properties that were told
-pub same-says : {K : Kind} {m w : List ℕ} {a b : ℕ} {v : Bool} → eqb a b ≡ v → Decides K m w (same a b) v
-same-says e = record { decides = λ B n l R s. e }
+pub same-says : {Q : Condition} {K : Kind} {m w : List ℕ} {a b : ℕ} {v : Bool} → eqb a b ≡ v → Decides Q K m w (same a b) v
+same-says e = record { decides = λ B c n l R s. e }
 
-pub less-says : {K : Kind} {m w : List ℕ} {a b : ℕ} {v : Bool} → ltb a b ≡ v → Decides K m w (less a b) v
-less-says e = record { decides = λ B n l R s. e }
+pub less-says : {Q : Condition} {K : Kind} {m w : List ℕ} {a b : ℕ} {v : Bool} → ltb a b ≡ v → Decides Q K m w (less a b) v
+less-says e = record { decides = λ B c n l R s. e }
 
-module _ {K : Kind} {m w : List ℕ} {l h : ℕ} {r : Properties} {v : Bool} (T′ : Tells K m w l h r) where
-  pub empty-says : r .empty ≡ v → Decides K m w (has isEmpty K l h) v
-  empty-says e = record { decides = λ B n i R s. T′ .tells (R .fields) B n i (R .formed) (R .words) s .empty ∙ e }
+module _ {Q : Condition} {K : Kind} {m w : List ℕ} {l h : ℕ} {r : Properties} {v : Bool} (T′ : Tells K m w l h r) where
+  pub empty-says : r .empty ≡ v → Decides Q K m w (has isEmpty K l h) v
+  empty-says e = record { decides = λ B c n i R s. T′ .tells (R .fields) B n i (R .formed) (R .words) s .empty ∙ e }
 
-  pub universal-says : r .universal ≡ v → Decides K m w (has isUniversal K l h) v
-  universal-says e = record { decides = λ B n i R s. T′ .tells (R .fields) B n i (R .formed) (R .words) s .universal ∙ e }
+  pub universal-says : r .universal ≡ v → Decides Q K m w (has isUniversal K l h) v
+  universal-says e = record { decides = λ B c n i R s. T′ .tells (R .fields) B n i (R .formed) (R .words) s .universal ∙ e }
 
-pub identity-says : {m w : List ℕ} {l h : ℕ} {r : Properties} {v : Bool} → Tells rel m w l h r → r .identity ≡ v → Decides rel m w (has isIdentity rel l h) v
-identity-says A e = record { decides = λ B n i R s. A .tells (R .fields) B n i (R .formed) (R .words) s .identity refl ∙ e }
+pub identity-says : {Q : Condition} {m w : List ℕ} {l h : ℕ} {r : Properties} {v : Bool} → Tells rel m w l h r → r .identity ≡ v
+    → Decides Q rel m w (has isIdentity rel l h) v
+identity-says A e = record { decides = λ B c n i R s. A .tells (R .fields) B n i (R .formed) (R .words) s .identity refl ∙ e }
 
 -- a number is given, after a failure or not
-pub performs-ret : {K : Kind} {s r : Arena} {m w : List ℕ} (h : ℕ) → r ≡ arena (s .ok) (s .n) h → Performs K (ret h) s m m w w r
+pub performs-ret : {Q : Condition} {K : Kind} {s r : Arena} {m w : List ℕ} (h : ℕ) → r ≡ arena (s .ok) (s .n) h → PerformsOn Q K (ret h) s m m w w r
 unfolding run ends
-performs-ret {K} {s} {r} {m} {w} h q = subst (λ x. Performs K (ret h) s m m w w x) (sym q) (record {
-  runs = λ B R. record {
+performs-ret {Q} {K} {s} {r} {m} {w} h q = subst (λ x. PerformsOn Q K (ret h) s m m w w x) (sym q) (record {
+  runs = λ B c R. record {
     okay = sym (ap (λ b. s .ok && b) (le-leb _ (places (arity K) m) (omega (arith, plain-length K B m (s .n), R .room))) ∙ and-true (s .ok));
     done = λ t. record { store = refl; value = refl; work = R .live t .work };
     writes = writes-same (R .room);
@@ -230,21 +232,22 @@ performs-ret {K} {s} {r} {m} {w} h q = subst (λ x. Performs K (ret h) s m m w w
     and-true true = refl
     and-true false = refl
 
-pub given : {K : Kind} {p : Prog} {s r : Arena} {m w : List ℕ} {h : ℕ} → s .ok ≡ true → Stands K p (ret h) m w → r ≡ arena (s .ok) (s .n) h
-    → Performs K p s m m w w r
+pub given : {Q : Condition} {K : Kind} {p : Prog} {s r : Arena} {m w : List ℕ} {h : ℕ} → s .ok ≡ true → StandsOn Q K p (ret h) m w
+    → r ≡ arena (s .ok) (s .n) h → PerformsOn Q K p s m m w w r
 given {h = h} ok u q = called ok u (performs-ret h q)
 
 -- the same program by another name
-pub performs-by : {K : Kind} {p q : Prog} {s r : Arena} {m m′ w w′ : List ℕ} → p ≡ q → Performs K q s m m′ w w′ r → Performs K p s m m′ w w′ r
-performs-by {K} {s = s} {r = r} {m = m} {m′ = m′} {w = w} {w′ = w′} e d = subst (λ x. Performs K x s m m′ w w′ r) (sym e) d
+pub performs-by : {Q : Condition} {K : Kind} {p q : Prog} {s r : Arena} {m m′ w w′ : List ℕ} → p ≡ q → PerformsOn Q K q s m m′ w w′ r
+    → PerformsOn Q K p s m m′ w w′ r
+performs-by {Q} {K} {s = s} {r = r} {m = m} {m′ = m′} {w = w} {w′ = w′} e d = subst (λ x. PerformsOn Q K x s m m′ w w′ r) (sym e) d
 
 -- a test on numbers made between two calls, after a failure or not
-performs-test : {K : Kind} {p q : Prog} {s r : Arena} {m m′ w w′ : List ℕ} → ((S : Store) → run p S ≡ run q S) → ((S : Store) → Safe p S → Safe q S)
-    → Performs K q s m m′ w w′ r → Performs K p s m m′ w w′ r
+performs-test : {Q : Condition} {K : Kind} {p q : Prog} {s r : Arena} {m m′ w w′ : List ℕ} → ((S : Store) → run p S ≡ run q S)
+    → ((S : Store) → Safe p S → Safe q S) → PerformsOn Q K q s m m′ w w′ r → PerformsOn Q K p s m m′ w w′ r
 unfolding ends
-performs-test {K} {s = s} {m = m} e f d = record {
-  runs = λ B R. let S = plain K B m (s .n) in
-      let b = d .runs B (record { room = R .room; live = λ t. record { safe = f S (R .live t .safe); work = R .live t .work } }) in record {
+performs-test {K = K} {s = s} {m = m} e f d = record {
+  runs = λ B c R. let S = plain K B m (s .n) in
+      let b = d .runs B c (record { room = R .room; live = λ t. record { safe = f S (R .live t .safe); work = R .live t .work } }) in record {
         okay = b .okay ∙ ap (λ (Q : Ran). s .ok && leb (length (nodes K (Q .store))) (places (arity K) m)) (sym (e S));
         done = λ t. record {
           store = b .done t .store ∙ ap (λ (Q : Ran). Q .store) (sym (e S));
@@ -256,30 +259,30 @@ performs-test {K} {s = s} {m = m} e f d = record {
       };
 }
 
-module _ {K : Kind} {q q′ : Prog} {s r : Arena} {m m′ w w′ : List ℕ} (a b : ℕ) where
-  pub performs-same : eqb a b ≡ true → Performs K q s m m′ w w′ r → Performs K (ask (same a b) q q′) s m m′ w w′ r
+module _ {Q : Condition} {K : Kind} {q q′ : Prog} {s r : Arena} {m m′ w w′ : List ℕ} (a b : ℕ) where
+  pub performs-same : eqb a b ≡ true → PerformsOn Q K q s m m′ w w′ r → PerformsOn Q K (ask (same a b) q q′) s m m′ w w′ r
   unfolding run Safe
   performs-same e = performs-test (λ S. rw e) (λ S h. rw e at (h .1))
 
-  pub performs-differ : eqb a b ≡ false → Performs K q′ s m m′ w w′ r → Performs K (ask (same a b) q q′) s m m′ w w′ r
+  pub performs-differ : eqb a b ≡ false → PerformsOn Q K q′ s m m′ w w′ r → PerformsOn Q K (ask (same a b) q q′) s m m′ w w′ r
   unfolding run Safe
   performs-differ e = performs-test (λ S. rw e) (λ S h. rw e at (h .1))
 
 -- ANSWERS of shortcuts
-module _ {K : Kind} {p : Prog} {node : ℕ → ℕ → Prog} {m w : List ℕ} where
-  pub answer : {h : ℕ} → Stands K p (ret h) m w → Answers K p node m w (Answer h)
+module _ {Q : Condition} {K : Kind} {p : Prog} {node : ℕ → ℕ → Prog} {m w : List ℕ} where
+  pub answer : {h : ℕ} → StandsOn Q K p (ret h) m w → AnswersOn Q K p node m w (Answer h)
   unfolding run
-  answer u = record { answers = λ B n l a R. u .left B n l a R .runs }
+  answer u = record { answers = λ B c n l a R. u .left B c n l a R .runs }
 
-  pub answer-stands : {r : Found} {h : ℕ} → Answers K p node m w r → r ≡ Answer h → Stands K p (ret h) m w
+  pub answer-stands : {r : Found} {h : ℕ} → AnswersOn Q K p node m w r → r ≡ Answer h → StandsOn Q K p (ret h) m w
   unfolding run Safe
   answer-stands {r} {h} a e = record {
-    left = λ B n l s R. record {
+    left = λ B c n l s R. record {
       runs = subst (λ z. answered p node (plain K B m n) z) e
-          (a .answers B n l s R);
+          (a .answers B c n l s R);
       safe = tt;
     };
   }
 
-  pub node-stands : {r : Found} {x y : ℕ} → Answers K p node m w r → r ≡ Operands x y → Stands K p (node x y) m w
-  node-stands a e = record { left = λ B n l s R. subst (λ z. answered p node (plain K B m n) z) e (a .answers B n l s R) }
+  pub node-stands : {r : Found} {x y : ℕ} → AnswersOn Q K p node m w r → r ≡ Operands x y → StandsOn Q K p (node x y) m w
+  node-stands a e = record { left = λ B c n l s R. subst (λ z. answered p node (plain K B m n) z) e (a .answers B c n l s R) }

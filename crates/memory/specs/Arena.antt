@@ -1,5 +1,5 @@
 -- What a function on the nodes of one kind does: it runs a program, within the places. Contracts hold over every store B
--- that has the nodes of the other kind.
+-- that has the nodes of the other kind, or over those with a condition Q.
 use mathlib.Core.Path.{_≡_}
 use mathlib.Core.List.{List, [], _∷_}
 use mathlib.Core.Bool.{Bool, true, false, _&&_}
@@ -7,11 +7,11 @@ use mathlib.Core.Logic.{_⊎_}
 use Prim.Native.Nat.{ℕ, _+_, _*_, _<_, _≤_}
 use lib.ListN.{length, getD, take, drop}
 use lib.Dec.{leb}
-use Rattle.nodes.specs.Store.{Kind, arity, Store, nodes, handle-of, sign, stored, get}
+use Rattle.nodes.specs.Store.{Kind, set, rel, arity, Store, nodes, handle-of, sign, stored, get}
 use Rattle.nodes.specs.Programs.{Prog, mk, Ran, ran, run}
 use Rattle.nodes.specs.WellFormed.{Held, WellFormed}
 use Rattle.nodes.specs.Safety.{Within, Safe}
-use Rattle.memory.specs.Rows.{row, places, plain}
+use Rattle.memory.specs.Rows.{row, rows, places, plain}
 use Rattle.memory.specs.Working.{memo-size, Has, Words, tag, Remembers, Right}
 use Rattle.memory.specs.Memo.{memo-program}
 use Rattle.memory.specs.declared.Arena.{Arena}
@@ -56,22 +56,51 @@ pub record Runs (K : Kind) (p : Prog) (B : Store) (s : Arena) (m m′ w w′ : L
   pub writes : Writes (arity K) (s .n) m m′ (r .n)
   pub wide : length w′ ≡ length w
 
--- the contract of a function that runs p
-pub record Performs (K : Kind) (p : Prog) (s : Arena) (m m′ w w′ : List ℕ) (r : Arena) : Type 0 where
-  pub runs : (B : Store) → Ready K p B s m w → Runs K p B s m m′ w w′ r
+-- what a contract may ask of the nodes of the other kind; nothing
+abbrev pub Condition : Type 1
+Condition = Store → Type 0
+
+abbrev pub Any : Condition
+Any B = Unit {0}
+
+-- the contract of a function that runs p, over each store with Q; over every store
+pub record PerformsOn (Q : Condition) (K : Kind) (p : Prog) (s : Arena) (m m′ w w′ : List ℕ) (r : Arena) : Type 0 where
+  pub runs : (B : Store) → Q B → Ready K p B s m w → Runs K p B s m m′ w w′ r
+
+abbrev pub Performs : Kind → Prog → Arena → List ℕ → List ℕ → List ℕ → List ℕ → Arena → Type 0
+Performs K p s m m′ w w′ r = PerformsOn Any K p s m m′ w w′ r
+
+-- the condition of a function that also reads the nodes of the other kind: they are the first j of o
+abbrev pub other : Kind → Kind
+other set = rel
+other rel = set
+
+pub record Beside (K : Kind) (o : List ℕ) (j : ℕ) (B : Store) : Type 0 where
+  pub read : nodes (other K) B ≡ rows (arity (other K)) j o
+  pub within : j ≤ places (arity (other K)) o
 
 -- LEFT: the program p has come to q in S, where nothing was added yet
 pub record Left (p q : Prog) (S : Store) : Type 0 where
   pub runs : run p S ≡ run q S
   pub safe : Safe q S
 
+-- a function that began with p stands before q, over each store with Q; over every store
+pub record StandsOn (Q : Condition) (K : Kind) (p q : Prog) (m w : List ℕ) : Type 0 where
+  pub left : (B : Store) → Q B → (n : ℕ) → n ≤ places (arity K) m → Safe p (plain K B m n) → Right K B w m n → Left p q (plain K B m n)
+
+abbrev pub Stands : Kind → Prog → Prog → List ℕ → List ℕ → Type 0
+Stands K p q m w = StandsOn Any K p q m w
+
 -- shortcuts and memo know the answer of p, or that node is left on these operands
 abbrev pub answered : Prog → (ℕ → ℕ → Prog) → Store → Found → Type 0
 answered p node S (Answer h) = run p S ≡ ran S h
 answered p node S (Operands x y) = Left p (node x y) S
 
-pub record Answers (K : Kind) (p : Prog) (node : ℕ → ℕ → Prog) (m w : List ℕ) (r : Found) : Type 0 where
-  pub answers : (B : Store) (n : ℕ) → n ≤ places (arity K) m → Safe p (plain K B m n) → Right K B w m n → answered p node (plain K B m n) r
+pub record AnswersOn (Q : Condition) (K : Kind) (p : Prog) (node : ℕ → ℕ → Prog) (m w : List ℕ) (r : Found) : Type 0 where
+  pub answers : (B : Store) → Q B → (n : ℕ) → n ≤ places (arity K) m → Safe p (plain K B m n) → Right K B w m n → answered p node (plain K B m n) r
+
+abbrev pub Answers : Kind → Prog → (ℕ → ℕ → Prog) → List ℕ → List ℕ → Found → Type 0
+Answers K p node m w r = AnswersOn Any K p node m w r
 
 -- the node y, as `mk` is given it, joined at the place r .h
 pub record Joins (K : Kind) (y : List ℕ) (s : Arena) (m m′ w w′ : List ℕ) (r : Arena) : Type 0 where

@@ -45,3 +45,7 @@ WalksTo m c l h v r = (K : Kind) (k : ℕ) (B : Store) (n : ℕ) → c ≡ arity
 abbrev pub WalksIdentity : List ℕ → ℕ → ℕ → Bool → Type 0
 WalksIdentity m l h r = (k : ℕ) (B : Store) (n : ℕ) → n ≤ places 4 m → WellFormed k (plain rel B m n) → Held rel (plain rel B m n) l h
     → r ≡ agrees (ending isIdentity) rel l h (plain rel B m n)
+
+-- the level of a held handle
+abbrev pub LevelIs : List ℕ → ℕ → ℕ → ℕ → ℕ → Type 0
+LevelIs m c k h r = (K : Kind) (B : Store) (n l : ℕ) → c ≡ arity K → n ≤ places c m → Held K (plain K B m n) l h → l ≤ k → r ≡ l

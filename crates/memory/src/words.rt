@@ -11,7 +11,7 @@ ghost use Rattle.nodes.specs.Safety.{Within};
 ghost use Rattle.memory.specs.Rows.{places, plain};
 ghost use Rattle.memory.specs.Working.{memo-size, words-at, properties-in, Known, Words};
 ghost use Rattle.memory.specs.Arena.{Tells};
-ghost use Rattle.memory.specs.Noting.{Noted, WordAt, Gathers, ChildOf, ChildrenAre, WalksTo, WalksIdentity};
+ghost use Rattle.memory.specs.Noting.{Noted, WordAt, Gathers, ChildOf, ChildrenAre, WalksTo, WalksIdentity, LevelIs};
 
 // A word with these properties.
 pub fn word_of(r: crate::Properties) -> u32
@@ -268,4 +268,21 @@ pub fn properties(nodes: &[u32], work: &[u32], c: usize, level: u8, h: u32) -> c
         universal: u,
         identity: i,
     }
+}
+
+// A handle's level, by its first children; at most k.
+pub fn level(nodes: &[u32], c: usize, k: u32, h: u32) -> u32
+    requires { ⌜ 0 < c ⌝ }
+    ensures { λ r. ⌜ LevelIs (now (nodes .entry)) c k h r × (r ≤ k) ⌝ }
+{
+    let mut l: u32 = 0;
+    let mut g = h;
+    while l < k {
+        if g < 2 {
+            return l;
+        }
+        g = child_of(nodes, c, g, 0);
+        l += 1;
+    }
+    l
 }

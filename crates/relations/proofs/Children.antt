@@ -5,12 +5,12 @@ use mathlib.Core.Bool.{true}
 use Prim.Native.Nat.{ℕ, _-_, _<_}
 use Rattle.nodes.specs.Programs.{Prog}
 use Rattle.nodes.specs.Recursion.{Op1, node1, op1, Op2, node2, op2, four}
-use Rattle.nodes.specs.Store.{rel}
+use Rattle.nodes.specs.Store.{Kind, rel}
 use Rattle.nodes.proofs.Recursion.{node1-open, node2-open}
-use Rattle.memory.specs.Arena.{Performs, Looks, Remembered}
+use Rattle.memory.specs.Arena.{Condition, PerformsOn, StandsOn, Stands, Looks, Remembered}
 use Rattle.memory.specs.Memo.{memo-program}
 use Rattle.memory.proofs.Remembering.{called-kept}
-use Rattle.memory.proofs.Steps.{performs-then, Stands, begin, by, looked, called}
+use Rattle.memory.proofs.Steps.{performs-then, begin, by, looked, called}
 use Rattle.memory.specs.declared.Arena.{Arena}
 
 -- an operation on one relation, on two
@@ -31,9 +31,9 @@ module _ {m w : List ℕ} where
   opened2 short kids l x y h X Y = looked (looked (by begin (node2-open (on-two short kids) l x y h)) X) Y
 
 -- four calls in order, then f of their handles, and the memo keeps the answer
-pub four-returns : {p n q0 q1 q2 q3 : Prog} {f : ℕ → ℕ → ℕ → ℕ → Prog} {s r0 r1 r2 r3 r q : Arena} {m m0 m1 m2 m3 m4 w w0 w1 w2 w3 w4 w5 : List ℕ}
-    (op l x y : ℕ) → s .ok ≡ true → l < 256 → n ≡ memo-program op l x y → Stands rel p n m w → Stands rel n (four q0 q1 q2 q3 f) m w
-    → Performs rel q0 s m m0 w w0 r0 → Performs rel q1 r0 m0 m1 w0 w1 r1 → Performs rel q2 r1 m1 m2 w1 w2 r2 → Performs rel q3 r2 m2 m3 w2 w3 r3
-    → Performs rel (f (r0 .h) (r1 .h) (r2 .h) (r3 .h)) r3 m3 m4 w3 w4 r → (q ≡ r) × Remembered r op l x y w4 w5 → Performs rel p s m m4 w w5 q
+pub four-returns : {Q : Condition} {K : Kind} {p n q0 q1 q2 q3 : Prog} {f : ℕ → ℕ → ℕ → ℕ → Prog} {s r0 r1 r2 r3 r q : Arena}
+    {m m0 m1 m2 m3 m4 w w0 w1 w2 w3 w4 w5 : List ℕ} (op l x y : ℕ) → s .ok ≡ true → l < 256 → n ≡ memo-program op l x y → StandsOn Q K p n m w → StandsOn Q K n (four q0 q1 q2 q3 f) m w
+    → PerformsOn Q K q0 s m m0 w w0 r0 → PerformsOn Q K q1 r0 m0 m1 w0 w1 r1 → PerformsOn Q K q2 r1 m1 m2 w1 w2 r2 → PerformsOn Q K q3 r2 m2 m3 w2 w3 r3
+    → PerformsOn Q K (f (r0 .h) (r1 .h) (r2 .h) (r3 .h)) r3 m3 m4 w3 w4 r → (q ≡ r) × Remembered r op l x y w4 w5 → PerformsOn Q K p s m m4 w w5 q
 four-returns op l x y ok b e u o d0 d1 d2 d3 d k =
     called-kept op l x y ok b e u (called ok o (performs-then d0 (performs-then d1 (performs-then d2 (performs-then d3 d))))) k

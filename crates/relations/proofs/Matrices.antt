@@ -8,9 +8,9 @@ use Rattle.nodes.specs.Programs.{Prog}
 use Rattle.nodes.specs.Recursion.{node1, node2, each2}
 use Rattle.nodes.specs.Relations.{sequence-op, sequence, star-op, star}
 use Rattle.nodes.specs.Store.{rel}
-use Rattle.memory.specs.Arena.{Performs, Looks, Remembered}
+use Rattle.memory.specs.Arena.{Performs, Looks, Remembered, Stands}
 use Rattle.memory.proofs.Remembering.{called-kept}
-use Rattle.memory.proofs.Steps.{performs-then, Stands, called}
+use Rattle.memory.proofs.Steps.{performs-then, called}
 use Rattle.memory.specs.declared.Arena.{Arena}
 use Rattle.relations.specs.Products.{star-node}
 use Rattle.relations.proofs.Children.{opened1, opened2}

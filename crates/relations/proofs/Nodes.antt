@@ -11,4 +11,4 @@ use Rattle.memory.specs.declared.Arena.{Arena}
 -- a node that joined, with its handle
 pub joined-performs : {s r : Arena} {m m′ w w′ : List ℕ} (x : List ℕ) → length x ≡ 4 → JoinsAs x s m m′ w w′ r
     → Performs rel (mk rel x) s m m′ w w′ (arena (r .ok) (r .n) (r .h + 2))
-joined-performs x z J = record { runs = λ B R. J .node rel x z refl .joins B _ R refl }
+joined-performs x z J = record { runs = λ B _ R. J .node rel x z refl .joins B _ R refl }

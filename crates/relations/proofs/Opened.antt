@@ -10,8 +10,9 @@ use Rattle.nodes.specs.Programs.{isEmpty, same, less, has, Prog, ret, ask, mk, 
 use Rattle.nodes.specs.Recursion.{node1, op1, node2, op2}
 use Rattle.nodes.specs.Relations.{sequence-op, sequence, star-op, star, flip-op, flip}
 use Rattle.nodes.specs.Store.{rel}
+use Rattle.memory.specs.Arena.{Stands}
 use Rattle.memory.specs.Memo.{memo-program}
-use Rattle.memory.proofs.Steps.{Stands, begin, by, yes, no, same-says}
+use Rattle.memory.proofs.Steps.{begin, by, yes, no, same-says}
 use Rattle.relations.specs.Ways.{lattice-tests, difference-tests}
 
 pub identity-zero : (l : ℕ) → l ≡ 0 → identity-at-depth l ≡ ret 1

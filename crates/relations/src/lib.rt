@@ -1,7 +1,7 @@
 // Relations on packets, after spp.rs: operations on relation nodes in a lent slice. Each runs its program of `nodes` for every working memory.
 ghost use mathlib.Core.Path.{_≡_};
 ghost use mathlib.Core.List.{List, [], _∷_};
-ghost use Prim.Native.Nat.{ℕ, _<_};
+ghost use Prim.Native.Nat.{ℕ, _<_, _≤_};
 ghost use Rattle.nodes.specs.Store.{rel};
 ghost use Rattle.nodes.specs.Programs.{Prog, less, ask};
 ghost use Rattle.nodes.specs.Recursion.{node2};
@@ -9,6 +9,7 @@ ghost use Rattle.nodes.specs.Operations.{constant, identity-at-depth, is-zero, 
 ghost use Rattle.nodes.specs.Operations.{difference, difference-op};
 ghost use Rattle.memory.specs.Arena.{Performs, Looks, Answers};
 ghost use Rattle.memory.specs.Memo.{memo-program};
+ghost use Rattle.memory.specs.Noting.{LevelIs};
 ghost use Rattle.relations.specs.Ways.{Goes, way-of, lattice-tests, difference-tests};
 
 pub mod fields;
@@ -76,6 +77,13 @@ pub fn mk(
         n: r.n,
         h: r.h + 2,
     }
+}
+
+// The level of a held handle, in a store of k fields.
+pub fn level(nodes: &[u32], k: u32, spp: u32) -> u32
+    ensures { λ r. ⌜ LevelIs (now (nodes .entry)) 4 k spp r × (r ≤ k) ⌝ }
+{
+    memory::words::level(nodes, 4, k, spp)
 }
 
 // The relation of this level whose every walk ends at c.

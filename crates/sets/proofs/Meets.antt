@@ -8,9 +8,9 @@ use Rattle.nodes.specs.Recursion.{node2}
 use Rattle.nodes.specs.Sets.{intersects-op, intersects}
 use Rattle.nodes.specs.Store.{set}
 use Rattle.nodes.proofs.Recursion.{node2-open}
-use Rattle.memory.specs.Arena.{Performs, Looks, Remembered}
+use Rattle.memory.specs.Arena.{Performs, Looks, Remembered, Stands}
 use Rattle.memory.proofs.Remembering.{performs-remember}
-use Rattle.memory.proofs.Steps.{performs-then, Stands, begin, by, looked, called}
+use Rattle.memory.proofs.Steps.{performs-then, begin, by, looked, called}
 use Rattle.memory.specs.declared.Arena.{Arena}
 use Rattle.sets.proofs.Opened.{intersects-memo}
 

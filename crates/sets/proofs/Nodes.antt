@@ -33,5 +33,5 @@ pub joined-performs : {s r : Arena} {m m′ w w′ : List ℕ} (x y : List ℕ) 
     → length x ≡ 2 → x ≡ stored set y → p ≡ sign y → p < 2 → JoinsAs x s m m′ w w′ r
     → Performs set (mk set y) s m m′ w w′ (arena (r .ok) (r .n) (2 * (r .h + 1) + p))
 joined-performs {r = r} x y p z e q b J = record {
-  runs = λ B R. J .node set y z e .joins B _ R (handle-signed p (r .h) b ∙ ap (λ s. handle-of set s (r .h)) q);
+  runs = λ B _ R. J .node set y z e .joins B _ R (handle-signed p (r .h) b ∙ ap (λ s. handle-of set s (r .h)) q);
 }

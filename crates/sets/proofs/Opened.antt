@@ -12,8 +12,9 @@ use Rattle.nodes.specs.Recursion.{node2, op2, x0, x1, each2}
 use Rattle.nodes.specs.Sets.{intersects-tests, intersects-op, intersects, ifelse}
 use Rattle.nodes.specs.Store.{set, signed}
 use Rattle.nodes.proofs.Recursion.{node2-open}
+use Rattle.memory.specs.Arena.{Stands}
 use Rattle.memory.specs.Memo.{memo-program}
-use Rattle.memory.proofs.Steps.{Stands, begin, by, no, same-says}
+use Rattle.memory.proofs.Steps.{begin, by, no, same-says}
 
 -- UNION
 module _ (l a b : ℕ) where

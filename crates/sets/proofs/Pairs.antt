@@ -7,10 +7,10 @@ use Rattle.nodes.specs.Programs.{Prog, mk}
 use Rattle.nodes.specs.Recursion.{Op2, node2, op2, each2}
 use Rattle.nodes.specs.Store.{set}
 use Rattle.nodes.proofs.Recursion.{node2-open}
-use Rattle.memory.specs.Arena.{Performs, Looks, Remembered}
+use Rattle.memory.specs.Arena.{Performs, Looks, Remembered, Stands}
 use Rattle.memory.specs.Memo.{memo-program}
 use Rattle.memory.proofs.Remembering.{performs-remember}
-use Rattle.memory.proofs.Steps.{performs-then, Stands, begin, by, looked, called}
+use Rattle.memory.proofs.Steps.{performs-then, begin, by, looked, called}
 use Rattle.memory.specs.declared.Arena.{Arena}
 
 abbrev pub pointwise : (ℕ → ℕ → ℕ → (ℕ → ℕ → Prog) → Prog) → Op2

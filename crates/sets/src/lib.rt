@@ -2,14 +2,18 @@
 ghost use mathlib.Core.Path.{_≡_};
 ghost use mathlib.Core.List.{List, [], _∷_};
 ghost use mathlib.Core.Bool.{Bool, true, false};
-ghost use Prim.Native.Nat.{ℕ, _-_, _*_, _%_, _<_};
-ghost use Rattle.nodes.specs.Store.{set, signed, stored, sign};
-ghost use Rattle.nodes.specs.Programs.{Prog};
+ghost use Prim.Native.Nat.{ℕ, _-_, _*_, _%_, _<_, _≤_};
+ghost use Rattle.nodes.specs.Store.{set, Store, signed, stored, sign};
+ghost use Rattle.nodes.specs.Programs.{Prog, isUniversal, has, holds};
+ghost use Rattle.nodes.specs.WellFormed.{Held, WellFormed};
 ghost use Rattle.nodes.specs.Recursion.{node2};
 ghost use Rattle.nodes.specs.Operations.{constant, is-zero, complement, union, union-op, union-tests, intersect, xor, xor-op};
 ghost use Rattle.nodes.specs.Operations.{xor-tests, difference};
 ghost use Rattle.nodes.specs.Sets.{intersects, intersects-op, intersects-tests};
 ghost use Rattle.memory.specs.Arena.{Performs, Looks, Answers};
+ghost use Rattle.memory.specs.Noting.{LevelIs};
+ghost use Rattle.memory.specs.Rows.{places, plain};
+ghost use Rattle.memory.specs.Working.{Words};
 
 pub mod fields;
 
@@ -111,6 +115,23 @@ pub fn one_at_depth(
     ensures { λ r. ⌜ Performs set (constant set 1 level) s (now (nodes .entry)) (now (nodes .exit)) (now (work .entry)) (now (work .exit)) r ⌝ }
 {
     constant(nodes, work, s, level, 1)
+}
+
+// The level of a held handle, in a store of k fields.
+pub fn level(nodes: &[u32], k: u32, sp: u32) -> u32
+    ensures { λ r. ⌜ LevelIs (now (nodes .entry)) 2 k sp r × (r ≤ k) ⌝ }
+{
+    memory::words::level(nodes, 2, k, sp)
+}
+
+// Whether a set of this level has all packets.
+pub fn is_universal(nodes: &[u32], work: &[u32], level: u8, sp: u32) -> bool
+    ensures { λ r. ⌜ ((k : ℕ) (B : Store) (n : ℕ) → n ≤ places 2 (now (nodes .entry)) → WellFormed k (plain set B (now (nodes .entry)) n)
+        → Words (now (work .entry)) (plain set B (now (nodes .entry)) n) → Held set (plain set B (now (nodes .entry)) n) level sp
+        → holds (has isUniversal set level sp) (plain set B (now (nodes .entry)) n) ≡ r) ⌝ }
+{
+    let p = memory::words::properties(nodes, work, 2, level, sp);
+    p.universal
 }
 
 // What the properties of two sets, or the memo, know of their union.

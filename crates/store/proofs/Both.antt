@@ -9,6 +9,7 @@ use lib.ListN.{length, getD, replicate}
 use Rattle.nodes.specs.Images.{blank}
 use Rattle.nodes.specs.Store.{Kind, set, rel, arity, Nodes, Store, nodes, index, with-sign, get, child}
 use Rattle.nodes.specs.WellFormed.{Held, Fits, Distinct, WellFormed}
+use Rattle.memory.specs.Arena.{other}
 use Rattle.memory.specs.Finding.{Emptied}
 use Rattle.memory.specs.Rows.{rows, places, plain}
 use Rattle.memory.specs.Working.{Right}
@@ -16,7 +17,7 @@ use Rattle.memory.proofs.Joining.{there}
 use Rattle.memory.proofs.Rows.{plain-length}
 use Rattle.memory.proofs.Starting.{right-turned, right-cleared}
 use Rattle.memory.proofs.Steps.{false≢true}
-use Rattle.store.specs.Judging.{Start, Judged, other, both, BothJudged}
+use Rattle.store.specs.Judging.{Start, Judged, both, BothJudged}
 use Rattle.store.proofs.Fitting.{says-no}
 
 -- ONE KIND of a well-formed store is well formed by itself

@@ -22,12 +22,13 @@ use Rattle.nodes.proofs.Tests.{low-level}
 use Rattle.memory.specs.Arena.{arena, Done}
 use Rattle.memory.specs.Finding.{Search, Finds, Entered}
 use Rattle.memory.specs.Noting.{Noted}
+use Rattle.memory.specs.Noting.{LevelIs}
 use Rattle.memory.specs.Rows.{row, places, plain}
 use Rattle.memory.specs.Working.{Indexed, Right}
 use Rattle.memory.proofs.Joining.{join-new}
 use Rattle.memory.proofs.Rows.{row-at, row-part, row-length, place-fits, rows-snoc, plain-length, plain-at}
 use Rattle.memory.proofs.Steps.{false≢true}
-use Rattle.store.specs.Judging.{LevelIs, ChildFits, NodeFits, Tests, FitsNext, Start, Judged}
+use Rattle.store.specs.Judging.{ChildFits, NodeFits, Tests, FitsNext, Start, Judged}
 
 -- TESTS
 module _ {P : Type 0} where
@@ -36,32 +37,6 @@ module _ {P : Type 0} where
 
   pub says-yes : P → Tests true P
   says-yes p = record { so = λ _. p; not = λ q. absurd (false≢true (sym q)) }
-
--- A LEVEL: of a handle of level l, walked down by cur children, g is left
-pub record Going (K : Kind) (S : Store) (l cur g : ℕ) : Type 0 where
-  pub rest : ℕ
-  pub sum : l ≡ cur + rest
-  pub held : Held K S rest g
-
-pub going-start : {K : Kind} {S : Store} {l h : ℕ} → Held K S l h → Going K S l 0 h
-going-start {l = l} A = record { rest = l; sum = omega arith; held = A }
-
-pub going-low : {K : Kind} {S : Store} {l cur g : ℕ} → g < 2 → Going K S l cur g → cur ≡ l
-going-low {K} {S} {l} {cur} {g} b G = omega (arith, G .sum, low-level K S (G .rest) g (G .held) b)
-
-pub going-within : {K : Kind} {S : Store} {l cur g : ℕ} → 2 ≤ g → Going K S l cur g → Within K S g
-going-within {K} {S} {l} {cur} {g} o G = go (G .rest) (G .held)
-  where
-    go : (e : ℕ) → Held K S e g → Within K S g
-    go zero A = absurd (omega arith)
-    go (suc e) A = record { big = A .big; there = A .there }
-
-pub going-next : {K : Kind} {S : Store} {l cur g r : ℕ} → 2 ≤ g → r ≡ getD (get K S g) 0 0 → Going K S l cur g → Going K S l (cur + 1) r
-going-next {K} {S} {l} {cur} {g} {r} o q G = go (G .rest) (G .sum) (G .held)
-  where
-    go : (e : ℕ) → l ≡ cur + e → Held K S e g → Going K S l (cur + 1) r
-    go zero s A = absurd (omega arith)
-    go (suc e) s A = record { rest = e; sum = omega arith; held = subst (Held K S e) (sym q) (A .below 0 (arity-pos K)) }
 
 -- A CHILD that stands earlier has a level
 early-held : (K : Kind) (S : Store) (h i : ℕ) → length (nodes K S) ≡ i → h < handle-of K 0 i → T (is-held K S h)

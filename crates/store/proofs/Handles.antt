@@ -10,9 +10,9 @@ use borrow.Author.Tests.{lt-ltb, le-ltb, eq-eqb, ne-eqb}
 use Rattle.nodes.specs.Store.{Kind, arity, Store, nodes, index}
 use Rattle.nodes.specs.WellFormed.{Held, WellFormed, is-held, level-of}
 use Rattle.nodes.proofs.Levels.{level-is, held-at}
+use Rattle.memory.specs.Noting.{LevelIs}
 use Rattle.memory.specs.Rows.{places, plain}
 use Rattle.memory.proofs.Steps.{false≢true}
-use Rattle.store.specs.Judging.{LevelIs}
 use Rattle.store.specs.Outcome.{Verdict, declines, provided, of-one, of-two, of-four}
 use Rattle.store.specs.Checking.{checked}
 use Rattle.store.specs.declared.Check.{Check}

@@ -30,7 +30,7 @@ module _ {K : Kind} {m w : List ℕ} {n : ℕ} {safe : Store → Type 0} {answer
   reads-truth {p} {r} o s y P = record {
     answers = λ B f R t.
         let S = plain K B m n in
-        let T = P .runs B (record { room = f; live = λ _. record { safe = s S t; work = R } }) in
+        let T = P .runs B tt (record { room = f; live = λ _. record { safe = s S t; work = R } }) in
         let k : r .ok ≡ true = T .okay ∙ fits K p S (places (arity K) m) o (subst (λ z. z ≤ places (arity K) m) (sym (plain-length K B m n)) f) in
         ap (λ h. Truth (eqb h 1)) (T .done k .value) ∙ sym (y S);
   }

@@ -84,7 +84,7 @@ module _ (K : Kind) (M : Memories) (w : List ℕ) (Y : Ready K M w) (n k : ℕ) 
     runs-here =
         subst (λ n. Runs K p (decode M) (arena true n 0) (body K m) b w w′ r) en
         (subst (λ x. Runs K p (decode M) (arena true n 0) x b w w′ r) (whole-part (head K) m)
-        (subst (λ p. Runs K p (decode M) (arena true n 0) part b w w′ r) eq (P .runs (decode M) (record {
+        (subst (λ p. Runs K p (decode M) (arena true n 0) part b w w′ r) eq (P .runs (decode M) tt (record {
           room = H .room;
           live = λ _. record { safe = subst (Safe q) (sym (H .nodes)) (subst (λ p. Safe p (decode M)) (sym eq) s); work = H .right };
         }))))

@@ -8,13 +8,10 @@ use Rattle.nodes.specs.Images.{blank}
 use Rattle.nodes.specs.Store.{Kind, set, rel, arity, Store, handle-of}
 use Rattle.nodes.specs.WellFormed.{Held, Even, WellFormed}
 use Rattle.memory.specs.Rows.{row, places, plain}
+use Rattle.memory.specs.Arena.{other}
 use Rattle.memory.specs.Working.{Right}
 use Rattle.store.specs.Memory.{fields, Memories, memory, count, body, decode}
 use Rattle.store.specs.Valid.{Room, store?}
-
--- the level of a held handle
-abbrev pub LevelIs : List ℕ → ℕ → ℕ → ℕ → ℕ → Type 0
-LevelIs m c k h r = (K : Kind) (B : Store) (n l : ℕ) → c ≡ arity K → n ≤ places c m → Held K (plain K B m n) l h → l ≤ k → r ≡ l
 
 -- child d of the node at place i stands earlier, at level l
 pub record ChildFits (K : Kind) (B : Store) (m : List ℕ) (i l d : ℕ) : Type 0 where
@@ -50,10 +47,6 @@ pub record Judged (c n k : ℕ) (m w w′ : List ℕ) (r : Bool) : Type 0 where
   pub right : (K : Kind) (B : Store) → c ≡ arity K → n ≤ places c m → Start k K B m w → r ≡ true → Right K B w′ m n
   pub verdict : (K : Kind) (B : Store) → c ≡ arity K → n ≤ places c m → Start k K B m w → Tests r (WellFormed k (plain K B m n))
   pub wide : length w′ ≡ length w
-
-abbrev pub other : Kind → Kind
-other set = rel
-other rel = set
 
 -- the n nodes of kind K in m, and the n′ of the other kind in m′
 abbrev pub both : Kind → List ℕ → ℕ → List ℕ → ℕ → Store

@@ -7,24 +7,7 @@ ghost use lib.ListN.{length, getD};
 ghost use Rattle.nodes.specs.Store.{Kind, arity, handle-of};
 ghost use Rattle.nodes.specs.WellFormed.{Even};
 ghost use Rattle.store.specs.Memory.{memories};
-ghost use Rattle.store.specs.Judging.{LevelIs, Tests, ChildrenFit, FitsNext, Judged, BothJudged, StoreJudged};
-
-// A handle's level, by its first children; at most k.
-pub fn level(nodes: &[u32], c: usize, k: u32, h: u32) -> u32
-    requires { ⌜ 0 < c ⌝ }
-    ensures { λ r. ⌜ LevelIs (now (nodes .entry)) c k h r × (r ≤ k) ⌝ }
-{
-    let mut l: u32 = 0;
-    let mut g = h;
-    while l < k {
-        if g < 2 {
-            return l;
-        }
-        g = memory::words::child_of(nodes, c, g, 0);
-        l += 1;
-    }
-    l
-}
+ghost use Rattle.store.specs.Judging.{Tests, ChildrenFit, FitsNext, Judged, BothJudged, StoreJudged};
 
 // The handle of the node at place i; a child stands below it.
 fn handle_at(c: usize, i: usize) -> usize
@@ -47,7 +30,7 @@ fn children_fit(nodes: &[u32], c: usize, k: u32, i: usize, l: u32) -> bool
         if memory::wide(h) >= most {
             return false;
         }
-        if level(nodes, c, k, h) != l {
+        if memory::words::level(nodes, c, k, h) != l {
             return false;
         }
         d += 1;
@@ -76,7 +59,7 @@ fn node_fits(nodes: &[u32], work: &[u32], c: usize, k: u32, i: usize) -> bool
     if memory::wide(x0) >= handle_at(c, i) {
         return false;
     }
-    let l = level(nodes, c, k, x0);
+    let l = memory::words::level(nodes, c, k, x0);
     if l >= k {
         return false;
     }

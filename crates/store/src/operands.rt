@@ -45,7 +45,7 @@ pub fn one(nodes: &[u32], c: usize, n: usize, k: u32, a: u32) -> crate::Check
     if !is_held(c, n, a) {
         return crate::Check::No(crate::Refusal::NotHeld);
     }
-    crate::Check::Level(crate::judge::level(nodes, c, k, a))
+    crate::Check::Level(memory::words::level(nodes, c, k, a))
 }
 
 // One operand that has children.
@@ -73,8 +73,8 @@ pub fn two(nodes: &[u32], c: usize, n: usize, k: u32, a: u32, b: u32) -> crate::
     if !is_held(c, n, b) {
         return crate::Check::No(crate::Refusal::NotHeld);
     }
-    let l = crate::judge::level(nodes, c, k, a);
-    if crate::judge::level(nodes, c, k, b) != l {
+    let l = memory::words::level(nodes, c, k, a);
+    if memory::words::level(nodes, c, k, b) != l {
         return crate::Check::No(crate::Refusal::LevelsDiffer);
     }
     crate::Check::Level(l)
@@ -130,13 +130,13 @@ fn all_at(nodes: &[u32], c: usize, k: u32, level: u32, x01: u32, x10: u32, x11: 
     requires { ⌜ 0 < c ⌝ }
     ensures { λ r. ⌜ AllAt (now (nodes .entry)) c k level «x01» «x10» «x11» r ⌝ }
 {
-    if crate::judge::level(nodes, c, k, x01) != level {
+    if memory::words::level(nodes, c, k, x01) != level {
         return false;
     }
-    if crate::judge::level(nodes, c, k, x10) != level {
+    if memory::words::level(nodes, c, k, x10) != level {
         return false;
     }
-    crate::judge::level(nodes, c, k, x11) == level
+    memory::words::level(nodes, c, k, x11) == level
 }
 
 // Four children, for a node above them.
@@ -157,7 +157,7 @@ pub fn four(
     if !all_held(c, n, x00, x01, x10, x11) {
         return crate::Check::No(crate::Refusal::NotHeld);
     }
-    let l = crate::judge::level(nodes, c, k, x00);
+    let l = memory::words::level(nodes, c, k, x00);
     if !all_at(nodes, c, k, l, x01, x10, x11) {
         return crate::Check::No(crate::Refusal::LevelsDiffer);
     }

@@ -11,7 +11,8 @@ use Rattle.nodes.specs.Programs.{Prog}
 use Rattle.nodes.specs.Recursion.{node2}
 use Rattle.nodes.specs.Operations.{union-op, union-tests, union as union-program}
 use Rattle.nodes.proofs.Recursion.{node2-zero}
-use Rattle.memory.proofs.Steps.{Stands, begin, by, yes, no, same-says, performs-stuck, given, called, impossible, further, answer-stands, node-stands}
+use Rattle.memory.specs.Arena.{Stands}
+use Rattle.memory.proofs.Steps.{begin, by, yes, no, same-says, performs-stuck, given, called, impossible, further, answer-stands, node-stands}
 use Rattle.sets.proofs.Opened.{union-is, union-memo, union-tested}
 use Rattle.sets.proofs.Pairs.{pair-returns}
 use Rattle.sets.proofs.union.Reads as union

@@ -6,7 +6,8 @@ use Rattle.nodes.specs.Store.{set}
 use Rattle.nodes.specs.Programs.{Prog}
 use Rattle.nodes.specs.Recursion.{node2}
 use Rattle.nodes.specs.Operations.{union-op, union-tests}
-use Rattle.memory.proofs.Steps.{Stands, begin, yes, no, empty-says, universal-says, less-says, answer}
+use Rattle.memory.specs.Arena.{Stands}
+use Rattle.memory.proofs.Steps.{begin, yes, no, empty-says, universal-says, less-says, answer}
 use Rattle.memory.proofs.Remembering.{answer-recalled}
 use Rattle.sets.proofs.Opened.{union-memo}
 use Rattle.memory.proofs.words.properties.Reads as properties-reads

@@ -4,11 +4,11 @@ use Prim.Native.Nat.{ℕ, _-_, _≤_}
 use native.Mathlib.Omega.{arith}
 use Rattle.nodes.specs.Store.{Kind, arity, Store}
 use Rattle.nodes.specs.WellFormed.{Held}
 use Rattle.memory.specs.Rows.{places, plain}
-use Rattle.store.proofs.Fitting.{Going, going-start, going-low, going-within, going-next}
+use Rattle.memory.proofs.Descending.{Going, going-start, going-low, going-within, going-next}
 use borrow.Author.Needs.{needs}
-use Rattle.store.proofs.judge.level.Statement.{statement}
-use Rattle.store.proofs.judge.level.Tie as tie
+use Rattle.memory.proofs.words.level.Statement.{statement}
+use Rattle.memory.proofs.words.level.Tie as tie
 
 abbrev Inv-loop : tie.InvT-loop
 Inv-loop nodes c k h l₀ g₀ l g = (l ≤ k) × ((K : Kind) (B : Store) (n t : ℕ) → c ≡ arity K → n ≤ places c nodes → Held K (plain K B nodes n) t h → t ≤ k

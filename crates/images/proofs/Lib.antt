@@ -1,0 +1,4 @@
+pub mod Opened
+pub mod Children
+pub mod Moving
+pub mod Leading

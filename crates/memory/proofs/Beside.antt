@@ -1,0 +1,48 @@
+-- Nodes of the other kind, in a slice beside that of the nodes added to, are the store's: laws for code that reads both.
+use mathlib.Core.Path.{_≡_, refl, sym, ap, _∙_, subst}
+use mathlib.Core.List.{List}
+use mathlib.Core.Bool.{Bool}
+use Prim.Native.Nat.{ℕ}
+use Rattle.nodes.specs.Programs.{isEmpty, isUniversal, isIdentity, has, Prog, look, run}
+use Rattle.nodes.specs.Safety.{Within, Safe}
+use Rattle.nodes.specs.Store.{Kind, set, rel, Store, get}
+use Rattle.nodes.specs.WellFormed.{Held, WellFormed}
+use Rattle.memory.specs.Arena.{other, Beside, StandsOn, Looks, Tells}
+use Rattle.memory.specs.Rows.{rows, plain}
+use Rattle.memory.specs.Working.{Has, Words, Right}
+use Rattle.memory.specs.declared.Properties.{Properties}
+use Rattle.memory.proofs.Steps.{Decides, turn}
+
+beside-same : (K : Kind) {o : List ℕ} {j : ℕ} {B : Store} (m : List ℕ) (n : ℕ) → Beside K o j B → plain (other K) (plain K B m n) o j ≡ plain K B m n
+beside-same set m n b = λ i. record { sets = rows 2 n m; rels = sym (b .read) i }
+beside-same rel m n b = λ i. record { sets = sym (b .read) i; rels = rows 4 n m }
+
+module _ {K : Kind} {o m w : List ℕ} {j : ℕ} where
+  -- the children of h, of the other kind, are x
+  pub looked-beside : {p : Prog} {f : List ℕ → Prog} {h : ℕ} {x : List ℕ} → StandsOn (Beside K o j) K p (look (other K) h f) m w → Looks (other K) o h x
+      → StandsOn (Beside K o j) K p (f x) m w
+  unfolding run Safe
+  looked-beside {p} {f} {h} {x} u k = turn u (λ B c n l a R.
+      let S = plain K B m n in
+      let e = beside-same K m n c in
+      let q : get (other K) S h ≡ x
+      = subst (λ T. get (other K) T h ≡ x) e (k .kids S j (c .within) (subst (λ T. Within (other K) T h) (sym e) (a .0))) in
+      record { runs = ap (λ y. run (f y) S) q; safe = subst (λ y. Safe (f y) S) q (a .1) })
+
+  module _ {l h : ℕ} {r : Properties} (t : Tells (other K) o w l h r) where
+    told : {B : Store} {n : ℕ} → Beside K o j B → Right K B w m n → Held (other K) (plain K B m n) l h → Has (other K) (plain K B m n) l h r
+    told {B} {n} c R s =
+        let e = beside-same K m n c in
+        subst (λ T. Has (other K) T l h r) e (t .tells (R .fields) (plain K B m n) j (c .within) (subst (WellFormed (R .fields)) (sym e) (R .formed))
+        (subst (Words w) (sym e) (R .words)) (subst (λ T. Held (other K) T l h) (sym e) s))
+
+    -- tests on the properties that were told of a handle of the other kind
+    pub empty-beside : {v : Bool} → r .empty ≡ v → Decides (Beside K o j) K m w (has isEmpty (other K) l h) v
+    empty-beside e = record { decides = λ B c n i R s. told c R s .empty ∙ e }
+
+    pub universal-beside : {v : Bool} → r .universal ≡ v → Decides (Beside K o j) K m w (has isUniversal (other K) l h) v
+    universal-beside e = record { decides = λ B c n i R s. told c R s .universal ∙ e }
+
+pub identity-beside : {o m w : List ℕ} {j l h : ℕ} {r : Properties} {v : Bool} → Tells rel o w l h r → r .identity ≡ v
+    → Decides (Beside set o j) set m w (has isIdentity rel l h) v
+identity-beside t e = record { decides = λ B c n i R s. told t c R s .identity refl ∙ e }
