@@ -15,12 +15,13 @@ pub fn finish(
     requires { ⌜ (0 < start) × (n ≤ r .n) × (r .n ≤ 4096) × (start + c * r .n ≤ length (now memory)) ⌝ }
     ensures { λ a. ⌜ Finished (now (memory .entry)) (now (memory .exit)) start c n r a ⌝ }
 {
+    let count = r.n;
     if r.ok {
-        memory[start - 1] = r.n as u32;
+        memory[start - 1] = count as u32;
         return crate::Answer::Handle(r.h);
     }
     let s = start + c * n;
-    let e = start + c * r.n;
+    let e = start + c * count;
     nodes::clear(&mut memory[s..e]);
     crate::Answer::Declined(crate::Refusal::UsedUp)
 }

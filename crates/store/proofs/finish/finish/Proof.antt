@@ -14,12 +14,12 @@ grown : (c : tie.Else1) → (let a = c .before .before .args in a .c * a .n ≤ 
 grown c = mul-le-mul-left _ (c .before .before .pre .1)
 
 returns : tie.Need-returns
-returns c = record { fitted = λ t. (refl, refl); full = λ f. absurd (false≢true (sym f ∙ c .before .if1 .taken)) }
+returns c = record { fitted = λ t. (refl, refl); full = λ f. absurd (false≢true (sym f ∙ c .if1 .taken)) }
 
 returns-2 : tie.Need-returns-2
 returns-2 c = record {
-  fitted = λ t. absurd (false≢true (sym (c .before .before .before .before .before .if1 .left) ∙ t));
-  full = λ f. (refl, cleared-by _ _ _ _ (c .before .before .before .before .before .before .before .pre .3) (c .before .before .clear .ensures));
+  fitted = λ t. absurd (false≢true (sym (c .before .before .before .before .if1 .left) ∙ t));
+  full = λ f. (refl, cleared-by _ _ _ _ (c .before .before .before .before .before .before .pre .3) (c .before .before .clear .ensures));
 }
 
 pub finish-spec : {M : Type 1} → statement M
@@ -36,9 +36,9 @@ finish-spec =
     (λ c. omega (arith, grown c, c .before .before .pre))
     (λ c. search needs)
     (λ c. search needs)
-    (λ c. omega (arith, grown (c .before), c .before .before .before .pre))
-    (λ c. omega (arith, grown (c .before), c .before .before .before .pre))
-    (λ c. omega (arith, grown (c .before), c .before .before .before .pre))
+    (λ c. omega (arith, grown c, c .before .before .pre))
+    (λ c. omega (arith, grown c, c .before .before .pre))
+    (λ c. omega (arith, grown c, c .before .before .pre))
     (λ c. search needs)
     (λ c κs. search needs)
     (λ c. search needs)
