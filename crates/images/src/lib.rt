@@ -1,5 +1,4 @@
-// The operations between relations and sets, after spp.rs. Each reads the nodes of both kinds in lent slices, adds nodes of one, and runs its
-// program of `nodes` for every working memory.
+// The operations between relations and sets, after spp.rs: each reads the nodes of both kinds in lent slices, and runs its program of `nodes`.
 ghost use Prim.Native.Nat.{ℕ};
 ghost use Rattle.nodes.specs.Store.{set};
 ghost use Rattle.nodes.specs.Images.{two-unions, fwd, bwd};

@@ -1,5 +1,4 @@
--- Laws for functions that run a program on the nodes of one kind, over each store with a condition Q: what is left of it where the function
--- stands, and each kind of return.
+-- Laws for functions that run a program on one kind's nodes, over each store with Q: what is left of it where they stand, and each kind of return.
 use mathlib.Core.Path.{_≡_, refl, sym, ap, _∙_, subst}
 use mathlib.Core.List.{List}
 use mathlib.Core.Bool.{Bool, true, false, _&&_}
