@@ -8,7 +8,7 @@ use std::process::ExitCode;
 
 const USAGE: &str = "usage: oracle replay
        oracle check
-       oracle draw SEED COUNT [sets | relations]";
+       oracle draw SEED COUNT [sets | relations | both]";
 
 const EFFORT: Effort = Effort { all_up_to: 65536, random_lists: 5000 };
 
@@ -36,6 +36,7 @@ fn draw(words: &[&str]) -> io::Result<()> {
         [seed, count] => (seed, count, Part::All),
         [seed, count, "sets"] => (seed, count, Part::Sets),
         [seed, count, "relations"] => (seed, count, Part::Relations),
+        [seed, count, "both"] => (seed, count, Part::Both),
         _ => return Err(io::Error::other(USAGE)),
     };
     let (Ok(seed), Ok(count)) = (seed.parse(), count.parse()) else {

@@ -70,6 +70,22 @@ impl Store {
         (relations as u32, sets as u32)
     }
 
+    /// How many relation places and set places there are.
+    pub fn places(&self) -> (u32, u32) {
+        (self.relation_places, self.set_places)
+    }
+
+    /// The relation nodes, in the order of their creation.
+    pub fn relation_nodes(&self) -> impl Iterator<Item = [u32; 4]> + '_ {
+        let children = |node: &SPPnode| [node.x00, node.x01, node.x10, node.x11].map(|x| x.0);
+        self.rust.nodes().iter().map(children)
+    }
+
+    /// The set nodes, in the order of their creation.
+    pub fn set_nodes(&self) -> impl Iterator<Item = [u32; 2]> + '_ {
+        self.rust.sp.nodes().iter().map(|node| [node.x0.0, node.x1.0])
+    }
+
     /// The level of a relation handle, if it is held.
     pub fn relation_level(&self, handle: u32) -> Option<u32> {
         let held = u64::from(handle) < u64::from(self.counts().0) + 2;

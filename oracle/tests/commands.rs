@@ -3,7 +3,7 @@
 use oracle::call::Call;
 use oracle::check::{check, Effort};
 use oracle::draw::{Draw, Part};
-use oracle::operations;
+use oracle::operations::{self, BETWEEN};
 use oracle::replay::replay;
 use std::collections::HashSet;
 
@@ -70,6 +70,10 @@ fn a_part_draws_its_own_operations_only() {
     };
     assert!(own(Part::Sets, &operations::SETS));
     assert!(own(Part::Relations, &operations::RELATIONS));
+    assert!(!own(Part::Both, &operations::SETS) && !own(Part::Both, &operations::RELATIONS));
+    assert!(drawn(4, 2000, Part::Both)
+        .iter()
+        .all(|line| !BETWEEN.iter().any(|x| line.starts_with(x.name))));
 }
 
 #[test]

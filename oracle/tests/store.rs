@@ -120,6 +120,17 @@ fn a_store_may_begin_with_any_nodes() {
 }
 
 #[test]
+fn a_store_tells_its_nodes_in_order() {
+    let relations = [[1, 0, 0, 1], [0, 0, 0, 0]];
+    let mut store = Store::with_nodes(1, 3, 2, &relations, &[[0, 1]]).unwrap();
+    answers(&mut store, &[("top", "h 4"), ("set.zero", "h 4"), ("set.one", "h 5")]);
+    let relations: Vec<_> = store.relation_nodes().collect();
+    assert_eq!(relations, [[1, 0, 0, 1], [0, 0, 0, 0], [1, 1, 1, 1]]);
+    assert_eq!(store.set_nodes().collect::<Vec<_>>(), [[0, 1], [0, 0]]);
+    assert_eq!(store.places(), (3, 2));
+}
+
+#[test]
 fn a_refusal_keeps_the_nodes_it_began_with() {
     let mut store = Store::with_nodes(1, 2, 0, &[[1, 0, 0, 1]], &[]).unwrap();
     answers(&mut store, &[("top", "h 3"), ("rel.zero", "r 6"), ("set.zero", "r 6")]);

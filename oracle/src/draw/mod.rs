@@ -17,6 +17,8 @@ pub enum Part {
     All,
     Sets,
     Relations,
+    /// Those on sets alone and those on relations alone.
+    Both,
 }
 
 /// An endless list of calls, the same for the same seed. The first is an accepted `new`.
@@ -132,6 +134,7 @@ fn weighed(part: Part, fields: u32) -> Vec<&'static Operation> {
         Part::All => operations::all().collect(),
         Part::Sets => operations::SETS.iter().collect(),
         Part::Relations => operations::RELATIONS.iter().collect(),
+        Part::Both => operations::SETS.iter().chain(&operations::RELATIONS).collect(),
     };
     let few = fields <= 6;
     let weight = |name| match name {

@@ -1,0 +1,18 @@
+// The call that begins a store, under its C name.
+ghost use Rattle.store.specs.Memory.{memories};
+ghost use Rattle.store.specs.Calls.{new-store};
+ghost use Rattle.packet_store.specs.Packed.{Answers};
+
+// A store of k fields in both memories.
+#[no_mangle]
+pub extern "C" fn packet_store_new(
+    relations: &mut [u32],
+    sets: &mut [u32],
+    work: &mut [u32],
+    k: u32,
+) -> u64
+    ensures { λ r. ⌜ Answers (new-store k) (memories (now (relations .entry)) (now (sets .entry)))
+        (memories (now (relations .exit)) (now (sets .exit))) (now (work .entry)) (now (work .exit)) r ⌝ }
+{
+    crate::answers::pack(store::creation::new(relations, sets, work, k))
+}

@@ -1,0 +1,7 @@
+// The calls of a packet store under C names: include/packet_store.h says what each does.
+pub mod answers;
+pub mod creation;
+pub mod relation_calls;
+pub mod relation_reads;
+pub mod set_calls;
+pub mod set_reads;

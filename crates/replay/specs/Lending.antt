@@ -1,0 +1,18 @@
+-- How much of two memories is lent from call to call.
+use mathlib.Core.List.{List}
+use Prim.Native.Nat.{ℕ, _≤_}
+use lib.ListN.{length}
+use Rattle.replay.specs.declared.runs.Lent.{Lent}
+use Rattle.replay.specs.declared.runs.Step.{Step}
+use Rattle.replay.specs.declared.runs.Step.the-variants.{On, End}
+
+-- the heads are lent, and no more than there is
+pub record Lends (l : Lent) (r s : List ℕ) : Type 0 where
+  pub head : 2 ≤ l .relations
+  pub relations : l .relations ≤ length r
+  pub first : 1 ≤ l .sets
+  pub sets : l .sets ≤ length s
+
+abbrev pub Goes : Step → List ℕ → List ℕ → Type 0
+Goes (On l) r s = Lends l r s
+Goes End r s = Unit {0}

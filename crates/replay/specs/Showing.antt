@@ -1,0 +1,30 @@
+-- What is written of an answer, in the oracle's format.
+use mathlib.Core.Path.{_≡_}
+use mathlib.Core.List.{List, [], _∷_}
+use Prim.Native.Nat.{ℕ, _≤_}
+use lib.ListN.{take}
+use Rattle.store.specs.Answers.{number, values}
+use Rattle.store.specs.declared.Answer.{Answer}
+use Rattle.store.specs.declared.Answer.the-variants.{Handle, Truth, SetNode, RelationNode, Declined}
+use Rattle.replay.specs.declared.answers.Shown.{Shown}
+
+-- `h` a handle, `b` yes or no, `c` children, `r` a refusal
+abbrev pub letter-of : Answer → ℕ
+letter-of (Handle h) = 104
+letter-of (Truth b) = 98
+letter-of (SetNode x0 x1) = 99
+letter-of (RelationNode x00 x01 x10 x11) = 99
+letter-of (Declined r) = 114
+
+-- the values, or the refusal's number
+abbrev pub numbers-of : Answer → List ℕ
+numbers-of (Handle h) = values (Handle h)
+numbers-of (Truth b) = values (Truth b)
+numbers-of (SetNode x0 x1) = values (SetNode x0 x1)
+numbers-of (RelationNode x00 x01 x10 x11) = values (RelationNode x00 x01 x10 x11)
+numbers-of (Declined r) = number r ∷ []
+
+pub record Shows (a : Answer) (s : Shown) : Type 0 where
+  pub letter : s .letter ≡ letter-of a
+  pub few : s .count ≤ 4
+  pub numbers : take (s .count) (s .x) ≡ numbers-of a

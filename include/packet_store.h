@@ -1,0 +1,225 @@
+/*
+ * A packet store: sets of packets and relations on packets, in memory that the caller lends.
+ *
+ * A packet of k fields is a number below 2^k; field 0 is its most significant bit, and k is at most 32.
+ * A handle names a set or a relation of a level, from 0 to k: it concerns packets of as many fields.
+ * Two sets of one level have the same packets exactly when their handles are equal, and two relations of one level
+ * relate the same pairs exactly when theirs are.
+ *
+ * MEMORY. Every function is lent three runs of uint32_t, each a pointer and a length in numbers:
+ *
+ *   relations  k, the count n of relation nodes, then four numbers for each place: x00, x01, x10, x11
+ *   sets       the count m of set nodes, then two numbers for each place: x0, x1
+ *   work       working memory of any length; with more of it a call is faster, and no answer depends on it
+ *
+ * Places are the whole nodes that fit, at most 4,096 of each kind: 2 + 4 * 4096 numbers of relations and
+ * 1 + 2 * 4096 of sets are never exceeded in use. Numbers beyond the last place are never touched.
+ * A run of length 0 may have a null pointer. Runs that a function writes must not overlap any other run,
+ * and nothing else may use them during the call. The functions keep nothing between calls, allocate
+ * nothing and may be called from several threads on different memories.
+ *
+ * Set handles 0 and 1 are the empty and the full set of level 0; the set node at place j, from 0, has handle
+ * 2 * (j + 1), and the odd handle after it is its complement. Relation handles 0 and 1 are the empty and the full
+ * relation of level 0; the relation node at place i has handle i + 2.
+ *
+ * ANSWER. Each function returns one number: in its high half the refusal's number, 0 where the call was
+ * accepted; in its low half the handle, 1 or 0 for yes or no, or 0 where the call was refused.
+ *
+ *   1 not a store     2 handle not held     3 levels differ
+ *   4 no children     5 out of range        6 places used up
+ *
+ * A refused call changes neither relations nor sets. Every call, refused or not, leaves work all zeros.
+ * Where several refusals apply, the first in the function's list is returned. Refusal 1 covers both memories:
+ * memory holds a store where packet_store_new, or any call after it, left it so.
+ */
+#ifndef PACKET_STORE_H
+#define PACKET_STORE_H
+
+#include <stddef.h>
+#include <stdint.h>
+
+#ifdef __cplusplus
+extern "C" {
+#endif
+
+/* The numbers of the refusals. */
+#define PACKET_STORE_NOT_STORE 1
+#define PACKET_STORE_NOT_HELD 2
+#define PACKET_STORE_LEVELS_DIFFER 3
+#define PACKET_STORE_NO_CHILDREN 4
+#define PACKET_STORE_OUT_OF_RANGE 5
+#define PACKET_STORE_USED_UP 6
+
+/* The two halves of an answer. */
+#define PACKET_STORE_REFUSAL(answer) ((uint32_t)((answer) >> 32))
+#define PACKET_STORE_VALUE(answer) ((uint32_t)(answer))
+
+/* CREATION */
+
+/*
+ * Begins a store of k fields in both memories, whatever they held: 3k relation nodes and k set nodes, the other
+ * places zeroed. Refuses: 5 if k > 32; 1 if relations has fewer than 2 numbers or sets none; 6 if relations has
+ * fewer than 3k places or sets fewer than k. Returns the full relation of level k: 3k + 1, or 1 at k = 0.
+ */
+uint64_t packet_store_new(uint32_t *relations, size_t relations_len, uint32_t *sets, size_t sets_len,
+                          uint32_t *work, size_t work_len, uint32_t k);
+
+/* SETS: CALLS THAT MAY ADD NODES. Each returns the handle of a set. */
+
+/*
+ * The set of packets whose field 0 is 0 and whose other fields are in x0, or whose field 0 is 1 and whose others are in x1.
+ * Refuses: 1; 2 if x0 or x1 is not held; 3 if their levels differ; 5 if their level is k; 6.
+ */
+uint64_t packet_store_set_mk(const uint32_t *relations, size_t relations_len, uint32_t *sets, size_t sets_len,
+                             uint32_t *work, size_t work_len, uint32_t x0, uint32_t x1);
+
+/* The empty set of level k. Refuses: 1; 6. */
+uint64_t packet_store_set_zero(const uint32_t *relations, size_t relations_len, uint32_t *sets, size_t sets_len,
+                               uint32_t *work, size_t work_len);
+
+/* The full set of level k. Refuses: 1; 6. */
+uint64_t packet_store_set_one(const uint32_t *relations, size_t relations_len, uint32_t *sets, size_t sets_len,
+                              uint32_t *work, size_t work_len);
+
+/* The packets in a or in b. Refuses: 1; 2 if a or b is not held; 3 if their levels differ; 6. */
+uint64_t packet_store_set_union(const uint32_t *relations, size_t relations_len, uint32_t *sets, size_t sets_len,
+                                uint32_t *work, size_t work_len, uint32_t a, uint32_t b);
+
+/* The packets in a and in b. Refuses as packet_store_set_union. */
+uint64_t packet_store_set_intersect(const uint32_t *relations, size_t relations_len, uint32_t *sets, size_t sets_len,
+                                    uint32_t *work, size_t work_len, uint32_t a, uint32_t b);
+
+/* The packets in exactly one of a and b. Refuses as packet_store_set_union. */
+uint64_t packet_store_set_xor(const uint32_t *relations, size_t relations_len, uint32_t *sets, size_t sets_len,
+                              uint32_t *work, size_t work_len, uint32_t a, uint32_t b);
+
+/* The packets in a and not in b. Refuses as packet_store_set_union. */
+uint64_t packet_store_set_difference(const uint32_t *relations, size_t relations_len, uint32_t *sets, size_t sets_len,
+                                     uint32_t *work, size_t work_len, uint32_t a, uint32_t b);
+
+/* The packets of level k whose field var has this value, 0 or 1. Refuses: 1; 5 if var is k or more, or value above 1; 6. */
+uint64_t packet_store_set_test(const uint32_t *relations, size_t relations_len, uint32_t *sets, size_t sets_len,
+                               uint32_t *work, size_t work_len, uint32_t var, uint32_t value);
+
+/*
+ * The packets of then_branch whose field var is 1 and those of else_branch whose field var is 0. Refuses: 1; 5 if var is k
+ * or more; 2 if a branch is not held; 3 if their levels differ; 4 if their level is not above var; 6.
+ */
+uint64_t packet_store_set_ifelse(const uint32_t *relations, size_t relations_len, uint32_t *sets, size_t sets_len,
+                                 uint32_t *work, size_t work_len, uint32_t var, uint32_t then_branch, uint32_t else_branch);
+
+/* SETS: CALLS THAT ADD NOTHING. They never refuse with 6. */
+
+/*
+ * Writes the children x0 and x1 of a where the call is accepted, and returns x0; leaves children as they are where it is
+ * refused. Refuses: 1; 2 if a is not held; 4 if a is 0 or 1. children points to two numbers and is never null.
+ */
+uint64_t packet_store_set_get(const uint32_t *relations, size_t relations_len, const uint32_t *sets, size_t sets_len,
+                              uint32_t *work, size_t work_len, uint32_t a, uint32_t children[2]);
+
+/* The packets of a's level that are not in a: the handle a with its lowest bit flipped. Refuses: 1; 2 if a is not held. */
+uint64_t packet_store_set_complement(const uint32_t *relations, size_t relations_len, const uint32_t *sets, size_t sets_len,
+                                     uint32_t *work, size_t work_len, uint32_t a);
+
+/* 1 if a has no packet, else 0. Refuses: 1; 2 if a is not held. */
+uint64_t packet_store_set_is_zero(const uint32_t *relations, size_t relations_len, const uint32_t *sets, size_t sets_len,
+                                  uint32_t *work, size_t work_len, uint32_t a);
+
+/* 1 if some packet is in a and in b, else 0. Refuses: 1; 2 if a or b is not held; 3 if their levels differ. */
+uint64_t packet_store_set_intersects(const uint32_t *relations, size_t relations_len, const uint32_t *sets, size_t sets_len,
+                                     uint32_t *work, size_t work_len, uint32_t a, uint32_t b);
+
+/* RELATIONS: CALLS THAT MAY ADD NODES. Each returns the handle of a relation. */
+
+/*
+ * The relation of the pairs whose input has i in field 0, whose output has o there and whose other fields x_io relates.
+ * Refuses: 1; 2 if a child is not held; 3 if their levels differ; 5 if their level is k; 6.
+ */
+uint64_t packet_store_relation_mk(uint32_t *relations, size_t relations_len, const uint32_t *sets, size_t sets_len,
+                                  uint32_t *work, size_t work_len, uint32_t x00, uint32_t x01, uint32_t x10, uint32_t x11);
+
+/* The empty relation of level k. Refuses: 1; 6. */
+uint64_t packet_store_relation_zero(uint32_t *relations, size_t relations_len, const uint32_t *sets, size_t sets_len,
+                                    uint32_t *work, size_t work_len);
+
+/* The identity of level k: each packet related to itself alone. Refuses: 1; 6. */
+uint64_t packet_store_relation_one(uint32_t *relations, size_t relations_len, const uint32_t *sets, size_t sets_len,
+                                   uint32_t *work, size_t work_len);
+
+/* The full relation of level k. Refuses: 1; 6. */
+uint64_t packet_store_relation_top(uint32_t *relations, size_t relations_len, const uint32_t *sets, size_t sets_len,
+                                   uint32_t *work, size_t work_len);
+
+/* The pairs in a or in b. Refuses: 1; 2 if a or b is not held; 3 if their levels differ; 6. */
+uint64_t packet_store_relation_union(uint32_t *relations, size_t relations_len, const uint32_t *sets, size_t sets_len,
+                                     uint32_t *work, size_t work_len, uint32_t a, uint32_t b);
+
+/* The pairs in a and in b. Refuses as packet_store_relation_union. */
+uint64_t packet_store_relation_intersect(uint32_t *relations, size_t relations_len, const uint32_t *sets, size_t sets_len,
+                                         uint32_t *work, size_t work_len, uint32_t a, uint32_t b);
+
+/* The pairs in exactly one of a and b. Refuses as packet_store_relation_union. */
+uint64_t packet_store_relation_xor(uint32_t *relations, size_t relations_len, const uint32_t *sets, size_t sets_len,
+                                   uint32_t *work, size_t work_len, uint32_t a, uint32_t b);
+
+/* The pairs in a and not in b. Refuses as packet_store_relation_union. */
+uint64_t packet_store_relation_difference(uint32_t *relations, size_t relations_len, const uint32_t *sets, size_t sets_len,
+                                          uint32_t *work, size_t work_len, uint32_t a, uint32_t b);
+
+/* The pairs of a's level that are not in a. Refuses: 1; 2 if a is not held; 6. */
+uint64_t packet_store_relation_complement(uint32_t *relations, size_t relations_len, const uint32_t *sets, size_t sets_len,
+                                          uint32_t *work, size_t work_len, uint32_t a);
+
+/* The pairs of an input of a and an output of b with a packet between them. Refuses as packet_store_relation_union. */
+uint64_t packet_store_relation_sequence(uint32_t *relations, size_t relations_len, const uint32_t *sets, size_t sets_len,
+                                        uint32_t *work, size_t work_len, uint32_t a, uint32_t b);
+
+/* The pairs that any finite number of steps of a relates, none included. Refuses as packet_store_relation_complement. */
+uint64_t packet_store_relation_star(uint32_t *relations, size_t relations_len, const uint32_t *sets, size_t sets_len,
+                                    uint32_t *work, size_t work_len, uint32_t a);
+
+/* The pairs of a with input and output exchanged. Refuses as packet_store_relation_complement. */
+uint64_t packet_store_relation_flip(uint32_t *relations, size_t relations_len, const uint32_t *sets, size_t sets_len,
+                                    uint32_t *work, size_t work_len, uint32_t a);
+
+/*
+ * Each packet of level k whose field var has this value, 0 or 1, related to itself. Refuses: 1; 5 if var is k or more, or
+ * value above 1; 6.
+ */
+uint64_t packet_store_relation_test(uint32_t *relations, size_t relations_len, const uint32_t *sets, size_t sets_len,
+                                    uint32_t *work, size_t work_len, uint32_t var, uint32_t value);
+
+/* Each packet of level k related to itself with this value in field var. Refuses as packet_store_relation_test. */
+uint64_t packet_store_relation_assign(uint32_t *relations, size_t relations_len, const uint32_t *sets, size_t sets_len,
+                                      uint32_t *work, size_t work_len, uint32_t var, uint32_t value);
+
+/* Every packet related to each output of a: the full relation, then a. Refuses as packet_store_relation_complement. */
+uint64_t packet_store_relation_naive_forward(uint32_t *relations, size_t relations_len, const uint32_t *sets, size_t sets_len,
+                                             uint32_t *work, size_t work_len, uint32_t a);
+
+/* Each input of a related to every packet: a, then the full relation. Refuses as packet_store_relation_complement. */
+uint64_t packet_store_relation_backward(uint32_t *relations, size_t relations_len, const uint32_t *sets, size_t sets_len,
+                                        uint32_t *work, size_t work_len, uint32_t a);
+
+/* RELATIONS: CALLS THAT ADD NOTHING. They never refuse with 6. */
+
+/*
+ * Writes the children x00, x01, x10 and x11 of a where the call is accepted, and returns x00; leaves children as they are
+ * where it is refused. Refuses: 1; 2 if a is not held; 4 if a is 0 or 1. children points to four numbers and is never null.
+ */
+uint64_t packet_store_relation_get(const uint32_t *relations, size_t relations_len, const uint32_t *sets, size_t sets_len,
+                                   uint32_t *work, size_t work_len, uint32_t a, uint32_t children[4]);
+
+/* 1 if a relates nothing, else 0. Refuses: 1; 2 if a is not held. */
+uint64_t packet_store_relation_is_zero(const uint32_t *relations, size_t relations_len, const uint32_t *sets, size_t sets_len,
+                                       uint32_t *work, size_t work_len, uint32_t a);
+
+/* 1 if a relates this input to this output, else 0. Refuses: 1; 2 if a is not held; 5 if a packet is 2^level or more. */
+uint64_t packet_store_relation_relates(const uint32_t *relations, size_t relations_len, const uint32_t *sets, size_t sets_len,
+                                       uint32_t *work, size_t work_len, uint32_t a, uint32_t input, uint32_t output);
+
+#ifdef __cplusplus
+}
+#endif
+
+#endif

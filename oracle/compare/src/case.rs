@@ -1,0 +1,91 @@
+//! One call of the library on lent memory, compared with what the oracle says.
+
+use crate::lent::Lent;
+use crate::library::{self, Memories};
+use crate::memory::encode;
+use oracle::answer::Answer;
+use oracle::random::Random;
+use oracle::store::Store;
+use std::fmt;
+
+/// Both memories of a store, and the length of the working memory for the next call.
+#[derive(Clone)]
+pub struct Case {
+    pub relations: Lent,
+    pub sets: Lent,
+    pub work: usize,
+}
+
+/// What differs, and where.
+pub struct Difference {
+    pub context: String,
+    pub call: String,
+    pub what: String,
+}
+
+impl fmt::Display for Difference {
+    fn fmt(&self, f: &mut fmt::Formatter<'_>) -> fmt::Result {
+        write!(f, "DIFFERS {}\n  call: {}\n  {}", self.context, self.call, self.what)
+    }
+}
+
+impl Case {
+    /// Memories of these lengths, full of noise.
+    pub fn noise(lengths: (usize, usize), random: &mut Random) -> Case {
+        let relations = Lent::noise(lengths.0, random);
+        Case { relations, sets: Lent::noise(lengths.1, random), work: 0 }
+    }
+
+    /// Writes a store into the memories.
+    pub fn encode(&mut self, store: &Store) {
+        encode(store, self.relations.numbers_mut(), self.sets.numbers_mut());
+    }
+
+    /// Makes a call. The answer must be this one, the memories those of `after`, or stay where there
+    /// is none, and the working memory all zeros.
+    pub fn make(
+        &mut self,
+        name: &str,
+        arguments: &[u32],
+        answer: &Answer,
+        after: Option<&Store>,
+        random: &mut Random,
+    ) -> Result<(), String> {
+        let mut expected = self.clone();
+        if let Some(store) = after {
+            expected.encode(store);
+        }
+        let mut work = Lent::noise(self.work, random);
+        let mut zeros = work.clone();
+        zeros.numbers_mut().fill(0);
+        let given = library::make(
+            name,
+            arguments,
+            Memories {
+                relations: self.relations.numbers_mut(),
+                sets: self.sets.numbers_mut(),
+                work: work.numbers_mut(),
+            },
+        );
+        if given != *answer {
+            return Err(format!("answer: {given}, the oracle's: {answer}"));
+        }
+        let parts = [
+            ("relation memory", &self.relations, &expected.relations),
+            ("set memory", &self.sets, &expected.sets),
+            ("working memory", &work, &zeros),
+        ];
+        for (part, found, expected) in parts {
+            if let Some(what) = found.difference(expected) {
+                return Err(format!("answer of both: {answer}; {part}: {what}"));
+            }
+        }
+        Ok(())
+    }
+}
+
+/// A call as the oracle writes it, `new` with its number of fields alone.
+pub fn line(name: &str, arguments: &[u32]) -> String {
+    let numbers: String = arguments.iter().map(|x| format!(" {x}")).collect();
+    format!("{name}{numbers}")
+}

@@ -1,0 +1,133 @@
+//! The library's calls by the oracle's names.
+
+use oracle::answer::{Answer, Refusal};
+use oracle::operations::{self, Operation};
+use packet_store as library;
+
+/// The three memories of a call.
+pub struct Memories<'a> {
+    pub relations: &'a mut [u32],
+    pub sets: &'a mut [u32],
+    pub work: &'a mut [u32],
+}
+
+type Run = fn(Memories, &[u32]) -> Result<Answer, library::Refusal>;
+
+/// The call that begins a store, on the number of fields.
+pub const NEW: Run = |m, x| library::new(m.relations, m.sets, m.work, x[0]).map(Answer::Handle);
+
+/// All other calls.
+pub static CALLS: [(&str, Run); 32] = [
+    ("set.mk", |m, x| library::set_mk(m.relations, m.sets, m.work, x[0], x[1]).map(Answer::Handle)),
+    ("set.get", |m, x| {
+        let children = library::set_get(m.relations, m.sets, m.work, x[0])?;
+        Ok(Answer::Children(children.to_vec()))
+    }),
+    ("set.union", |m, x| {
+        library::set_union(m.relations, m.sets, m.work, x[0], x[1]).map(Answer::Handle)
+    }),
+    ("set.intersect", |m, x| {
+        library::set_intersect(m.relations, m.sets, m.work, x[0], x[1]).map(Answer::Handle)
+    }),
+    ("set.xor", |m, x| {
+        library::set_xor(m.relations, m.sets, m.work, x[0], x[1]).map(Answer::Handle)
+    }),
+    ("set.difference", |m, x| {
+        library::set_difference(m.relations, m.sets, m.work, x[0], x[1]).map(Answer::Handle)
+    }),
+    ("set.complement", |m, x| {
+        library::set_complement(m.relations, m.sets, m.work, x[0]).map(Answer::Handle)
+    }),
+    ("set.is_zero", |m, x| {
+        library::set_is_zero(m.relations, m.sets, m.work, x[0]).map(Answer::YesNo)
+    }),
+    ("set.test", |m, x| {
+        library::set_test(m.relations, m.sets, m.work, x[0], x[1]).map(Answer::Handle)
+    }),
+    ("set.zero", |m, _| library::set_zero(m.relations, m.sets, m.work).map(Answer::Handle)),
+    ("set.one", |m, _| library::set_one(m.relations, m.sets, m.work).map(Answer::Handle)),
+    ("intersects", |m, x| {
+        library::set_intersects(m.relations, m.sets, m.work, x[0], x[1]).map(Answer::YesNo)
+    }),
+    ("ifelse", |m, x| {
+        library::set_ifelse(m.relations, m.sets, m.work, x[0], x[1], x[2]).map(Answer::Handle)
+    }),
+    ("rel.mk", |m, x| {
+        library::relation_mk(m.relations, m.sets, m.work, x[0], x[1], x[2], x[3])
+            .map(Answer::Handle)
+    }),
+    ("rel.get", |m, x| {
+        let children = library::relation_get(m.relations, m.sets, m.work, x[0])?;
+        Ok(Answer::Children(children.to_vec()))
+    }),
+    ("rel.union", |m, x| {
+        library::relation_union(m.relations, m.sets, m.work, x[0], x[1]).map(Answer::Handle)
+    }),
+    ("rel.intersect", |m, x| {
+        library::relation_intersect(m.relations, m.sets, m.work, x[0], x[1]).map(Answer::Handle)
+    }),
+    ("rel.xor", |m, x| {
+        library::relation_xor(m.relations, m.sets, m.work, x[0], x[1]).map(Answer::Handle)
+    }),
+    ("rel.difference", |m, x| {
+        library::relation_difference(m.relations, m.sets, m.work, x[0], x[1]).map(Answer::Handle)
+    }),
+    ("rel.complement", |m, x| {
+        library::relation_complement(m.relations, m.sets, m.work, x[0]).map(Answer::Handle)
+    }),
+    ("rel.is_zero", |m, x| {
+        library::relation_is_zero(m.relations, m.sets, m.work, x[0]).map(Answer::YesNo)
+    }),
+    ("rel.test", |m, x| {
+        library::relation_test(m.relations, m.sets, m.work, x[0], x[1]).map(Answer::Handle)
+    }),
+    ("rel.zero", |m, _| library::relation_zero(m.relations, m.sets, m.work).map(Answer::Handle)),
+    ("rel.one", |m, _| library::relation_one(m.relations, m.sets, m.work).map(Answer::Handle)),
+    ("top", |m, _| library::relation_top(m.relations, m.sets, m.work).map(Answer::Handle)),
+    ("sequence", |m, x| {
+        library::relation_sequence(m.relations, m.sets, m.work, x[0], x[1]).map(Answer::Handle)
+    }),
+    ("star", |m, x| library::relation_star(m.relations, m.sets, m.work, x[0]).map(Answer::Handle)),
+    ("flip", |m, x| library::relation_flip(m.relations, m.sets, m.work, x[0]).map(Answer::Handle)),
+    ("assign", |m, x| {
+        library::relation_assign(m.relations, m.sets, m.work, x[0], x[1]).map(Answer::Handle)
+    }),
+    ("naive_forward", |m, x| {
+        library::relation_naive_forward(m.relations, m.sets, m.work, x[0]).map(Answer::Handle)
+    }),
+    ("backward", |m, x| {
+        library::relation_backward(m.relations, m.sets, m.work, x[0]).map(Answer::Handle)
+    }),
+    ("relates", |m, x| {
+        library::relation_relates(m.relations, m.sets, m.work, x[0], x[1], x[2]).map(Answer::YesNo)
+    }),
+];
+
+/// Makes a call of the library; `new` is there too.
+pub fn make(name: &str, arguments: &[u32], memories: Memories) -> Answer {
+    let run = match name {
+        "new" => NEW,
+        _ => {
+            let found = CALLS.iter().find(|call| call.0 == name);
+            found.unwrap_or_else(|| panic!("the library has no call {name} yet")).1
+        }
+    };
+    run(memories, arguments).unwrap_or_else(|refusal| Answer::Refused(oracles(refusal)))
+}
+
+/// Whether an operation takes or makes relations.
+pub fn on_relations(operation: &Operation) -> bool {
+    operations::RELATIONS.iter().any(|other| other.name == operation.name)
+}
+
+/// The oracle's name of a refusal.
+fn oracles(refusal: library::Refusal) -> Refusal {
+    match refusal {
+        library::Refusal::NotStore => Refusal::NotAStore,
+        library::Refusal::NotHeld => Refusal::NotHeld,
+        library::Refusal::LevelsDiffer => Refusal::LevelsDiffer,
+        library::Refusal::NoChildren => Refusal::NoChildren,
+        library::Refusal::OutOfRange => Refusal::OutOfRange,
+        library::Refusal::UsedUp => Refusal::UsedUp,
+    }
+}

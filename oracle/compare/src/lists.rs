@@ -1,0 +1,128 @@
+//! Random lists of calls: after each call the answer and both memories are compared.
+
+use crate::case::{Case, Difference};
+use crate::lent::WorkLengths;
+use crate::library;
+use crate::memory::lengths;
+use oracle::answer::{Answer, Refusal};
+use oracle::call::Call;
+use oracle::draw::{Draw, Part};
+use oracle::random::Random;
+use oracle::replay::empty_store;
+use oracle::store::Store;
+use std::collections::BTreeMap;
+
+/// What was compared.
+#[derive(Default)]
+struct Counts {
+    calls: u64,
+    stores: u64,
+    refused: [u64; 7],
+    /// The calls on stores of each number of fields.
+    fields: BTreeMap<u32, u64>,
+    most_nodes: (u32, u32),
+}
+
+/// Draws a list as `oracle draw` does and makes its calls on the library and on the oracle.
+pub fn compare(seed: u64, count: usize, part: Part) -> Result<String, Difference> {
+    let mut counts = Counts::default();
+    let mut noise = Random::new(!seed);
+    let mut work = WorkLengths::new();
+    let mut store = empty_store();
+    let mut case = Case::noise(lengths(0, 0, (0, 0)), &mut noise);
+    case.encode(&store);
+    for (number, call) in Draw::new(seed, part).take(count).enumerate() {
+        let on_relations =
+            matches!(&call, Call::Operation(operation, _) if library::on_relations(operation));
+        case.work = work.next(store.fields(), on_relations);
+        let made = match &call {
+            Call::New { fields, relation_places, set_places } => {
+                let places = (*relation_places, *set_places);
+                open(*fields, places, &mut store, &mut case, &mut counts, &mut noise)
+            }
+            Call::Operation(operation, arguments) => {
+                let answer = store.call(operation, arguments);
+                counts.enter(&answer, &store);
+                let accepted = !matches!(answer, Answer::Refused(_));
+                let after = accepted.then_some(&store);
+                case.make(operation.name, arguments, &answer, after, &mut noise)
+            }
+        };
+        made.map_err(|what| {
+            let (n, m) = store.counts();
+            let k = store.fields();
+            let context = format!(
+                "seed {seed}, call {}, store of {k} fields with {n} and {m} nodes, working memory {}",
+                number + 1,
+                case.work
+            );
+            Difference { context, call: call.to_string(), what }
+        })?;
+    }
+    Ok(counts.summary(seed))
+}
+
+/// Makes a `new` on memories full of noise that have these places; where it is accepted they take
+/// the place of those before.
+fn open(
+    fields: u32,
+    places: (u32, u32),
+    store: &mut Store,
+    case: &mut Case,
+    counts: &mut Counts,
+    noise: &mut Random,
+) -> Result<(), String> {
+    let beyond = (noise.below(4) as usize, noise.below(2) as usize);
+    let mut fresh = Case::noise(lengths(places.0 as usize, places.1 as usize, beyond), noise);
+    fresh.work = case.work;
+    match Store::new(fields, places.0, places.1) {
+        Ok(mut opened) => {
+            let top = opened.ask("top", &[]);
+            counts.stores += 1;
+            counts.enter(&top, &opened);
+            fresh.make("new", &[fields], &top, Some(&opened), noise)?;
+            *store = opened;
+            *case = fresh;
+            Ok(())
+        }
+        Err(refusal) => {
+            let answer = Answer::Refused(refusal);
+            counts.enter(&answer, store);
+            fresh.make("new", &[fields], &answer, None, noise)?;
+            // Too many fields are refused on the memories in use too.
+            if refusal == Refusal::OutOfRange {
+                case.make("new", &[fields], &answer, None, noise)?;
+            }
+            Ok(())
+        }
+    }
+}
+
+impl Counts {
+    /// Enters a call that the oracle answered, and the store after it.
+    fn enter(&mut self, answer: &Answer, store: &Store) {
+        self.calls += 1;
+        if let Answer::Refused(refusal) = answer {
+            self.refused[*refusal as usize] += 1;
+        }
+        *self.fields.entry(store.fields()).or_default() += 1;
+        let (n, m) = store.counts();
+        self.most_nodes = (self.most_nodes.0.max(n), self.most_nodes.1.max(m));
+    }
+
+    fn summary(&self, seed: u64) -> String {
+        let refused: Vec<String> =
+            (1..7).map(|number| format!("{number}: {}", self.refused[number])).collect();
+        let fields: Vec<String> =
+            self.fields.iter().map(|(fields, calls)| format!("{fields}: {calls}")).collect();
+        format!(
+            "AGREES seed {seed}: {} calls, {} stores, refused {}, calls by fields {}, at most {} and {} nodes",
+            self.calls,
+            self.stores,
+            refused.join(", "),
+            fields.join(", "),
+            self.most_nodes.0,
+            self.most_nodes.1
+        )
+    }
+}

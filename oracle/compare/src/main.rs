@@ -1,0 +1,60 @@
+//! Compares the proved library with the oracle, and measures how its time grows.
+
+mod case;
+mod damage;
+mod growth;
+mod lent;
+mod library;
+mod lists;
+mod memory;
+
+use case::Difference;
+use oracle::draw::Part;
+use std::process::ExitCode;
+
+const USAGE: &str = "usage: compare calls SEED COUNT [sets | relations | both]
+       compare damage SEED COUNT [sets | relations | both]
+       compare growth";
+
+fn main() -> ExitCode {
+    let arguments: Vec<String> = std::env::args().skip(1).collect();
+    let words: Vec<&str> = arguments.iter().map(String::as_str).collect();
+    match run(&words) {
+        Some(Ok(summary)) => {
+            println!("{summary}");
+            ExitCode::SUCCESS
+        }
+        Some(Err(difference)) => {
+            println!("{difference}");
+            ExitCode::FAILURE
+        }
+        None => {
+            eprintln!("{USAGE}");
+            ExitCode::from(2)
+        }
+    }
+}
+
+/// The summary of a command, or the first difference; nothing where the words are no command.
+fn run(words: &[&str]) -> Option<Result<String, Difference>> {
+    match *words {
+        ["calls", seed, count, ref kind @ ..] => {
+            Some(lists::compare(seed.parse().ok()?, count.parse().ok()?, part(kind)?))
+        }
+        ["damage", seed, count, ref kind @ ..] => {
+            Some(damage::compare(seed.parse().ok()?, count.parse().ok()?, part(kind)?))
+        }
+        ["growth"] => Some(Ok(growth::measure())),
+        _ => None,
+    }
+}
+
+/// The operations to draw; on either kind where none are named.
+fn part(words: &[&str]) -> Option<Part> {
+    match *words {
+        ["sets"] => Some(Part::Sets),
+        ["relations"] => Some(Part::Relations),
+        [] | ["both"] => Some(Part::Both),
+        _ => None,
+    }
+}

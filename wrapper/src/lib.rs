@@ -1,0 +1,46 @@
+//! Safe functions over the proved packet store: sets of packets and relations on packets, in memory that
+//! the caller lends.
+//!
+//! Every function is lent `relations`, `sets` and `work`, slices of `u32` of any length. The first two hold
+//! the store, each node in a place; document 01 and include/packet_store.h give their layout. `work` is
+//! working memory: with more of it a call is faster, and no answer depends on it.
+//!
+//! A refused call changes neither `relations` nor `sets`; every call leaves `work` all zeros. Where several
+//! refusals apply, the first in the function's list is given.
+//!
+//! ```
+//! let (mut relations, mut sets) = ([0; 2 + 4 * 16], [0; 1 + 2 * 16]);
+//! let mut work = [0; 4096];
+//! packet_store::new(&mut relations, &mut sets, &mut work, 2)?;
+//! let a = packet_store::set_test(&relations, &mut sets, &mut work, 0, 1)?;
+//! let b = packet_store::set_complement(&relations, &sets, &mut work, a)?;
+//! let all = packet_store::set_union(&relations, &mut sets, &mut work, a, b)?;
+//! assert_eq!(packet_store::set_one(&relations, &mut sets, &mut work)?, all);
+//! # Ok::<(), packet_store::Refusal>(())
+//! ```
+
+mod c;
+mod creation;
+mod lend;
+mod refusal;
+mod relation_calls;
+mod relation_reads;
+mod set_calls;
+mod set_reads;
+
+pub use creation::new;
+pub use refusal::Refusal;
+pub use relation_calls::*;
+pub use relation_reads::*;
+pub use set_calls::*;
+pub use set_reads::*;
+
+/// How many numbers `relations` needs for this many places.
+pub const fn relations_len(places: usize) -> usize {
+    2 + 4 * places
+}
+
+/// How many numbers `sets` needs for this many places.
+pub const fn sets_len(places: usize) -> usize {
+    1 + 2 * places
+}

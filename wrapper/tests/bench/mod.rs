@@ -1,0 +1,97 @@
+//! Lent memory for the tests: a refusal must leave it as it was.
+
+// No test file uses all of it.
+#![allow(dead_code)]
+
+use packet_store::*;
+
+/// Two memories with this many places of each kind, and some working memory.
+pub struct Bench {
+    pub relations: Vec<u32>,
+    pub sets: Vec<u32>,
+    pub work: Vec<u32>,
+}
+
+impl Bench {
+    pub fn raw(relation_places: usize, set_places: usize) -> Bench {
+        let relations = vec![7; relations_len(relation_places)];
+        Bench { relations, sets: vec![7; sets_len(set_places)], work: vec![7; 4096] }
+    }
+
+    /// A store of k fields.
+    pub fn new(k: u32, relation_places: usize, set_places: usize) -> Bench {
+        let mut bench = Bench::raw(relation_places, set_places);
+        assert!(bench.open(k).is_ok());
+        bench
+    }
+
+    /// The same memories, with other working memory.
+    pub fn copy(&self) -> Bench {
+        Bench { relations: self.relations.clone(), sets: self.sets.clone(), work: vec![7; 9] }
+    }
+
+    /// Makes a call that may write both memories.
+    pub fn open(&mut self, k: u32) -> Result<u32, Refusal> {
+        let before = (self.relations.clone(), self.sets.clone());
+        let answer = new(&mut self.relations, &mut self.sets, &mut self.work, k);
+        if answer.is_err() {
+            assert_eq!(before, (self.relations.clone(), self.sets.clone()));
+        }
+        self.spoil_work();
+        answer
+    }
+
+    /// Makes a call that may add sets.
+    pub fn add_set(
+        &mut self,
+        call: impl FnOnce(&[u32], &mut [u32], &mut [u32]) -> Result<u32, Refusal>,
+    ) -> Result<u32, Refusal> {
+        let before = self.sets.clone();
+        let answer = call(&self.relations, &mut self.sets, &mut self.work);
+        if answer.is_err() {
+            assert_eq!(before, self.sets);
+        }
+        self.spoil_work();
+        answer
+    }
+
+    /// Makes a call that may add relations.
+    pub fn add_relation(
+        &mut self,
+        call: impl FnOnce(&mut [u32], &[u32], &mut [u32]) -> Result<u32, Refusal>,
+    ) -> Result<u32, Refusal> {
+        let before = self.relations.clone();
+        let answer = call(&mut self.relations, &self.sets, &mut self.work);
+        if answer.is_err() {
+            assert_eq!(before, self.relations);
+        }
+        self.spoil_work();
+        answer
+    }
+
+    /// Makes a call that adds nothing.
+    pub fn read<T>(
+        &mut self,
+        call: impl FnOnce(&[u32], &[u32], &mut [u32]) -> Result<T, Refusal>,
+    ) -> Result<T, Refusal> {
+        let answer = call(&self.relations, &self.sets, &mut self.work);
+        self.spoil_work();
+        answer
+    }
+
+    /// The working memory must be all zeros; the next call finds other numbers in it.
+    fn spoil_work(&mut self) {
+        assert!(self.work.iter().all(|&x| x == 0));
+        self.work.fill(7);
+    }
+}
+
+/// Ways to damage a store of 2 fields with 6 and 4 places, right after `new`.
+pub const DAMAGES: [fn(&mut Bench); 6] = [
+    |b| b.relations[0] = 33,
+    |b| b.relations[1] = 7,
+    |b| b.sets[0] = 1,
+    |b| b.sets[8] = 1,
+    |b| b.sets[1] = 1,
+    |b| drop(b.sets.drain(..)),
+];

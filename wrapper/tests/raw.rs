@@ -1,0 +1,75 @@
+//! What only C sees: null pointers of no length, and children that stay as they are.
+
+use packet_store::{new, set_zero};
+use std::ptr::null_mut;
+
+extern "C" {
+    fn packet_store_set_get(
+        relations: *const u32,
+        relations_len: usize,
+        sets: *const u32,
+        sets_len: usize,
+        work: *mut u32,
+        work_len: usize,
+        a: u32,
+        children: *mut u32,
+    ) -> u64;
+
+    fn packet_store_relation_get(
+        relations: *const u32,
+        relations_len: usize,
+        sets: *const u32,
+        sets_len: usize,
+        work: *mut u32,
+        work_len: usize,
+        a: u32,
+        children: *mut u32,
+    ) -> u64;
+}
+
+/// One of the two.
+type Get = unsafe extern "C" fn(
+    *const u32,
+    usize,
+    *const u32,
+    usize,
+    *mut u32,
+    usize,
+    u32,
+    *mut u32,
+) -> u64;
+
+/// The answer and the numbers lent for the children, which begin as these.
+fn ask<const N: usize>(
+    get: Get,
+    relations: &[u32],
+    sets: &[u32],
+    a: u32,
+    mut children: [u32; N],
+) -> (u64, [u32; N]) {
+    let (r, s) = (relations.as_ptr(), sets.as_ptr());
+    // SAFETY: the pointers are those of slices, work has no numbers, and N is as many as the function writes.
+    let answer =
+        unsafe { get(r, relations.len(), s, sets.len(), null_mut(), 0, a, children.as_mut_ptr()) };
+    (answer, children)
+}
+
+#[test]
+fn get_writes_the_children_of_an_accepted_call_only() {
+    let (mut relations, mut sets) = ([0; 14], [0; 3]);
+    new(&mut relations, &mut sets, &mut [], 1).unwrap();
+    let set = |sets: &[u32], a| ask(packet_store_set_get, &relations, sets, a, [70, 80]);
+    assert_eq!(set(&sets, 3), (1, [1, 1]));
+    assert_eq!(set(&sets, 2), (0, [0, 0]));
+    assert_eq!(set(&sets, 4), (2 << 32, [70, 80]));
+    assert_eq!(set(&sets, 1), (4 << 32, [70, 80]));
+    assert_eq!(set(&sets[..2], 3), (1 << 32, [70, 80]));
+    let kept = [70, 80, 90, 100];
+    let relation = |sets: &[u32], a| ask(packet_store_relation_get, &relations, sets, a, kept);
+    assert_eq!(relation(&sets, 3), (1, [1, 0, 0, 1]));
+    assert_eq!(relation(&sets, 2), (0, [0, 0, 0, 0]));
+    assert_eq!(relation(&sets, 5), (2 << 32, kept));
+    assert_eq!(relation(&sets, 1), (4 << 32, kept));
+    assert_eq!(relation(&sets[..2], 3), (1 << 32, kept));
+    assert_eq!(set_zero(&relations, &mut sets, &mut []), Ok(2));
+}
