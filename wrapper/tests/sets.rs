@@ -71,6 +71,7 @@ fn refusals_come_in_order() {
         assert_eq!(bench.add_set(|r, s, w| call(r, s, w, 4, 2)), Err(LevelsDiffer));
     }
     assert_eq!(bench.add_set(|r, s, w| set_test(r, s, w, 2, 0)), Err(OutOfRange));
+    assert_eq!(bench.add_set(|r, s, w| set_test(r, s, w, u32::MAX, 0)), Err(OutOfRange));
     assert_eq!(bench.add_set(|r, s, w| set_test(r, s, w, 0, 2)), Err(OutOfRange));
     assert_eq!(bench.add_set(|r, s, w| set_test(r, s, w, 1, 1)), Err(UsedUp));
     assert_eq!(bench.add_set(|r, s, w| set_ifelse(r, s, w, 2, 99, 99)), Err(OutOfRange));
@@ -97,6 +98,16 @@ fn memory_that_is_no_store_is_refused() {
         assert_eq!(bench.read(|r, s, w| set_is_zero(r, s, w, 0)), Err(NotStore));
     }
     assert_eq!(bench.add_set(set_zero), Ok(4));
+}
+
+#[test]
+fn a_store_without_constants_builds_them_from_level_0_up() {
+    let mut bench = Bench::raw(6, 4);
+    bench.relations.fill(0);
+    bench.relations[0] = 2;
+    bench.sets.fill(0);
+    assert_eq!(bench.add_set(set_zero), Ok(4));
+    assert_eq!(bench.sets, [2, 0, 0, 2, 2, 0, 0, 0, 0]);
 }
 
 #[test]

@@ -86,12 +86,31 @@ impl Bench {
     }
 }
 
-/// Ways to damage a store of 2 fields with 6 and 4 places, right after `new`.
-pub const DAMAGES: [fn(&mut Bench); 6] = [
+/// Ways to damage a store of 2 fields with 6 and 4 places, right after `new`: its set nodes are (0, 0) and (2, 2).
+pub const DAMAGES: [fn(&mut Bench); 18] = [
+    // Lengths, k and counts.
+    |b| drop(b.sets.drain(..)),
+    |b| drop(b.relations.drain(..)),
+    |b| b.relations.truncate(1),
+    |b| b.relations.truncate(25),
+    |b| b.sets.truncate(4),
     |b| b.relations[0] = 33,
     |b| b.relations[1] = 7,
+    |b| b.sets[0] = 5,
+    // A free place that is not zero, and an odd first child.
     |b| b.sets[0] = 1,
     |b| b.sets[8] = 1,
     |b| b.sets[1] = 1,
-    |b| drop(b.sets.drain(..)),
+    // A child that is the node itself, that comes later, that is not held.
+    |b| b.sets[3] = 4,
+    |b| b.sets[1] = 4,
+    |b| b.relations[2] = u32::MAX,
+    // Children of two levels, a level above k, equal nodes of each kind.
+    |b| b.sets[4] = 0,
+    |b| {
+        b.sets[0] = 3;
+        b.sets[5..7].fill(4);
+    },
+    |b| b.sets[3..5].fill(0),
+    |b| b.relations.copy_within(2..6, 6),
 ];
