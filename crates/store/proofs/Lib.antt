@@ -19,3 +19,4 @@ pub mod SetSteps
 pub mod RelationSteps
 pub mod Creating
 pub mod Filling
+pub mod CallMeans

@@ -123,7 +123,7 @@ module _ (v : ℕ → Store → Verdict) (M : Memories) where
 
   -- on a store, the verdict is the call's
   module _ (s : IsStore M) where
-    judged : (u : Verdict) → v (fields M) (decode M) ≡ u
+    pub judged : (u : Verdict) → v (fields M) (decode M) ≡ u
         → on-store v M ≡ concludes (set-places M) (rel-places M) u (decode M) M (λ S. encode (fields M) S M)
     unfolding on-store
     judged u e = ap (λ u. concludes (set-places M) (rel-places M) u (decode M) M (λ S. encode (fields M) S M))
