@@ -24,21 +24,14 @@ use Rattle.store.specs.declared.relation_calls.RelationCall.the-variants
 use Rattle.store.specs.declared.set_calls.SetCall.{SetCall}
 use Rattle.store.specs.declared.set_calls.SetCall.the-variants as T
 use Rattle.store.proofs.Encoding.{decode-encode}
-use Rattle.store.proofs.Going.{provided-went, one-went, two-went, four-went}
+use Rattle.store.proofs.Going.{provided-went, one-went, two-went, four-went, handle}
 use Rattle.store.proofs.Outcomes.{judged}
 use Rattle.store.proofs.RelationMeant.{relation-does}
 use Rattle.store.proofs.RelationSteps.{relation-steps}
 use Rattle.store.proofs.SetMeant.{set-does}
 use Rattle.store.proofs.SetSteps.{set-steps}
 
--- the handle in an answer, and whether there is one
-abbrev handle : Answer → ℕ
-handle (Handle h) = h
-handle (Truth b) = 0
-handle (SetNode x y) = 0
-handle (RelationNode x y z u) = 0
-handle (Declined r) = 0
-
+-- an answer that is a handle
 abbrev Given : Answer → Type 0
 Given (Handle h) = Unit {0}
 Given (Truth b) = ⊥

@@ -10,6 +10,7 @@ use Rattle.nodes.specs.WellFormed.{Held, WellFormed, is-held, level-of}
 use Rattle.nodes.proofs.Bools.{eqb-iff}
 use Rattle.nodes.proofs.Rules.{Does}
 use Rattle.store.specs.Outcome.{Verdict, declines, gives, runs, provided, of-one, of-two, of-four}
+use Rattle.store.specs.declared.Answer.{Answer}
 use Rattle.store.specs.declared.Answer.the-variants.{Handle, Truth, SetNode, RelationNode, Declined}
 use Rattle.store.specs.declared.Refusal.{Refusal}
 use Rattle.store.proofs.Handles.{held-here, all-four}
@@ -74,12 +75,15 @@ above (suc l) e = (l, refl)
 pub does-as : {k : ℕ} {S : Store} {p q : Prog} {Q : Store → ℕ → Type 0} → runs q ≡ runs p → Does k S q Q → Does k S p Q
 does-as {k} {S} {Q = Q} e D = subst (λ q. Does k S q Q) (ap program-in e) D
 
--- the handle in an answer
+-- the handle in an answer, and in a verdict
+abbrev pub handle : Answer → ℕ
+handle (Handle h) = h
+handle (Truth b) = 0
+handle (SetNode x y) = 0
+handle (RelationNode x y z u) = 0
+handle (Declined r) = 0
+
 abbrev pub handle-in : Verdict → ℕ
 handle-in (declines r) = 0
-handle-in (gives (Handle h)) = h
-handle-in (gives (Truth b)) = 0
-handle-in (gives (SetNode x y)) = 0
-handle-in (gives (RelationNode x y z u)) = 0
-handle-in (gives (Declined r)) = 0
+handle-in (gives a) = handle a
 handle-in (runs p) = 0

@@ -79,7 +79,8 @@ module _ {k : ℕ} {S : Store} (K : Kind) (F : WellFormed k S) where
       unfolding of-four
       at-levels x q = provided-yes _ _ _ e ∙ rw (← p, q)
 
-      pub four-apart : (eqb (level-of k K S b) l && (eqb (level-of k K S c) l && eqb (level-of k K S d) l)) ≡ false → of-four k K S a b c d v ≡ declines LevelsDiffer
+      pub four-apart : (eqb (level-of k K S b) l && (eqb (level-of k K S c) l && eqb (level-of k K S d) l)) ≡ false
+          → of-four k K S a b c d v ≡ declines LevelsDiffer
       four-apart q = at-levels false q ∙ provided-no _ _ _ refl
 
       pub four-are : (eqb (level-of k K S b) l && (eqb (level-of k K S c) l && eqb (level-of k K S d) l)) ≡ true → of-four k K S a b c d v ≡ v l

@@ -4,9 +4,9 @@ ghost use Prim.Native.Nat.{_<_};
 ghost use Rattle.store.specs.Answers.{number};
 
 pub mod creation;
-pub mod finish;
+mod finish;
 pub mod judge;
-pub mod operands;
+mod operands;
 pub mod relation_calls;
 pub mod relation_reads;
 pub mod room;
@@ -53,7 +53,7 @@ pub fn number_of(r: Refusal) -> u32
 }
 
 // A number below 256.
-pub fn narrow(x: u32) -> u8
+fn narrow(x: u32) -> u8
     requires { ⌜ x < 256 ⌝ }
     ensures { λ r. ⌜ r ≡ x ⌝ }
 {

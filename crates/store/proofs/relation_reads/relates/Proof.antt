@@ -32,7 +32,8 @@ loop-again c = (
       let c3 = c .before .before .before in
       let W = c3 .before .loop .inv .1 B n f A in
       let g = c3 .loop-test .taken in
-      walking-next _ _ _ _ g (bit (c .before .before .wide .ensures) (half c3)) (bit (c .before .wide2 .ensures) (half c3)) (c .child-of .ensures rel B n refl f (walking-within _ g W)) W,
+      walking-next _ _ _ _ g (bit (c .before .before .wide .ensures) (half c3)) (bit (c .before .wide2 .ensures) (half c3))
+      (c .child-of .ensures rel B n refl f (walking-within _ g W)) W,
 )
 
 pub relates-spec : {M : Type 1} → statement M
