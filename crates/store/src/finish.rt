@@ -5,7 +5,7 @@ ghost use lib.ListN.{length};
 ghost use Rattle.store.specs.Finishing.{Finished};
 
 // The count is written, or the nodes are again as they were: n nodes of c numbers, which begin at `start`.
-pub fn finish(
+pub(crate) fn finish(
     memory: &mut [u32],
     start: usize,
     c: usize,

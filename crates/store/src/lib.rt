@@ -9,7 +9,7 @@ pub mod judge;
 mod operands;
 pub mod relation_calls;
 pub mod relation_reads;
-pub mod room;
+mod room;
 pub mod set_calls;
 pub mod set_reads;
 

@@ -38,7 +38,7 @@ fn all_held(c: usize, n: usize, x00: u32, x01: u32, x10: u32, x11: u32) -> bool
 }
 
 // One operand.
-pub fn one(nodes: &[u32], c: usize, n: usize, k: u32, a: u32) -> crate::Check
+pub(crate) fn one(nodes: &[u32], c: usize, n: usize, k: u32, a: u32) -> crate::Check
     requires { ⌜ 0 < c ⌝ }
     ensures { λ r. ⌜ ((K : Kind) → c ≡ arity K → Checks K (now (nodes .entry)) n k (λ S v. of-one k K S a v) r) ⌝ }
 {
@@ -49,7 +49,7 @@ pub fn one(nodes: &[u32], c: usize, n: usize, k: u32, a: u32) -> crate::Check
 }
 
 // One operand that has children.
-pub fn parent(nodes: &[u32], c: usize, n: usize, k: u32, a: u32) -> crate::Check
+pub(crate) fn parent(nodes: &[u32], c: usize, n: usize, k: u32, a: u32) -> crate::Check
     requires { ⌜ 0 < c ⌝ }
     ensures { λ r. ⌜ ((K : Kind) → c ≡ arity K → Checks K (now (nodes .entry)) n k (λ S v. of-one k K S a (λ l. provided NoChildren (ltb 0 l) (v l))) r) ⌝ }
 {
@@ -63,7 +63,7 @@ pub fn parent(nodes: &[u32], c: usize, n: usize, k: u32, a: u32) -> crate::Check
 }
 
 // Two operands of one kind.
-pub fn two(nodes: &[u32], c: usize, n: usize, k: u32, a: u32, b: u32) -> crate::Check
+pub(crate) fn two(nodes: &[u32], c: usize, n: usize, k: u32, a: u32, b: u32) -> crate::Check
     requires { ⌜ 0 < c ⌝ }
     ensures { λ r. ⌜ ((K : Kind) → c ≡ arity K → Checks K (now (nodes .entry)) n k (λ S v. of-two k K S a b v) r) ⌝ }
 {
@@ -81,7 +81,7 @@ pub fn two(nodes: &[u32], c: usize, n: usize, k: u32, a: u32, b: u32) -> crate::
 }
 
 // Two children, for a node above them.
-pub fn children(nodes: &[u32], c: usize, n: usize, k: u32, a: u32, b: u32) -> crate::Check
+pub(crate) fn children(nodes: &[u32], c: usize, n: usize, k: u32, a: u32, b: u32) -> crate::Check
     requires { ⌜ 0 < c ⌝ }
     ensures { λ r. ⌜ ((K : Kind) → c ≡ arity K → Checks K (now (nodes .entry)) n k (λ S v. of-two k K S a b (λ l. provided OutOfRange (ltb l k) (v l))) r) ⌝ }
 {
@@ -95,7 +95,7 @@ pub fn children(nodes: &[u32], c: usize, n: usize, k: u32, a: u32, b: u32) -> cr
 }
 
 // A field and a value for it.
-pub fn field(k: u32, var: u32, value: u32) -> crate::Check
+pub(crate) fn field(k: u32, var: u32, value: u32) -> crate::Check
     ensures { λ r. ⌜ ((v : ℕ → Verdict) → provided OutOfRange (ltb var k) (provided OutOfRange (ltb value 2) (v k)) ≡ checked r v) × Low k r ⌝ }
 {
     if var >= k {
@@ -108,7 +108,7 @@ pub fn field(k: u32, var: u32, value: u32) -> crate::Check
 }
 
 // A field, and two operands of a level above it.
-pub fn branches(nodes: &[u32], c: usize, n: usize, k: u32, var: u32, a: u32, b: u32) -> crate::Check
+pub(crate) fn branches(nodes: &[u32], c: usize, n: usize, k: u32, var: u32, a: u32, b: u32) -> crate::Check
     requires { ⌜ 0 < c ⌝ }
     ensures { λ r. ⌜ ((K : Kind) → c ≡ arity K → Checks K (now (nodes .entry)) n k
         (λ S v. provided OutOfRange (ltb var k) (of-two k K S a b (λ l. provided NoChildren (ltb var l) (v l)))) r) ⌝ }
@@ -140,7 +140,7 @@ fn all_at(nodes: &[u32], c: usize, k: u32, level: u32, x01: u32, x10: u32, x11: 
 }
 
 // Four children, for a node above them.
-pub fn four(
+pub(crate) fn four(
     nodes: &[u32],
     c: usize,
     n: usize,
@@ -168,7 +168,7 @@ pub fn four(
 }
 
 // 2 to the power l.
-pub fn power(l: u8) -> u64
+pub(crate) fn power(l: u8) -> u64
     requires { ⌜ l ≤ 32 ⌝ }
     ensures { λ r. ⌜ r ≡ 2 ^ l ⌝ }
 {
@@ -182,14 +182,14 @@ pub fn power(l: u8) -> u64
 }
 
 // A number as a wider one.
-pub fn wide(x: u32) -> u64
+pub(crate) fn wide(x: u32) -> u64
     ensures { λ r. ⌜ r ≡ x ⌝ }
 {
     x as u64
 }
 
 // A relation, and two packets of its level.
-pub fn packets(nodes: &[u32], n: usize, k: u32, a: u32, input: u32, output: u32) -> crate::Check
+pub(crate) fn packets(nodes: &[u32], n: usize, k: u32, a: u32, input: u32, output: u32) -> crate::Check
     requires { ⌜ k ≤ 32 ⌝ }
     ensures { λ r. ⌜ Checks rel (now (nodes .entry)) n k
         (λ S v. of-one k rel S a (λ l. provided OutOfRange (ltb input (2 ^ l)) (provided OutOfRange (ltb output (2 ^ l)) (v l)))) r ⌝ }

@@ -41,7 +41,7 @@ fn has_room(m: &[u32], start: usize, c: usize) -> bool
 }
 
 // Whether both memories have room for what they say, and at most 32 fields.
-pub fn heads_fit(relations: &[u32], sets: &[u32]) -> bool
+pub(crate) fn heads_fit(relations: &[u32], sets: &[u32]) -> bool
     ensures { λ r. ⌜ Tests r (HeadsFit (memories (now (relations .entry)) (now (sets .entry)))) ⌝ }
 {
     if !has_room(relations, 2, 4) {
