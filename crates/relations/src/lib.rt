@@ -1,19 +1,16 @@
 // Relations on packets, after spp.rs: operations on relation nodes in a lent slice. Each runs its program of `nodes` for every working memory.
 ghost use mathlib.Core.Path.{_≡_};
-ghost use mathlib.Core.List.{List, [], _∷_};
-ghost use Prim.Native.Nat.{ℕ, _<_, _≤_};
+ghost use mathlib.Core.List.{[], _∷_};
+ghost use Prim.Native.Nat.{_≤_};
 ghost use Rattle.nodes.specs.Store.{rel};
-ghost use Rattle.nodes.specs.Programs.{Prog, less, ask};
-ghost use Rattle.nodes.specs.Recursion.{node2};
-ghost use Rattle.nodes.specs.Operations.{constant, identity-at-depth, is-zero, complement, union, intersect, xor, xor-op, xor-tests};
-ghost use Rattle.nodes.specs.Operations.{difference, difference-op};
-ghost use Rattle.memory.specs.Arena.{Performs, Looks, Answers};
-ghost use Rattle.memory.specs.Memo.{memo-program};
+ghost use Rattle.nodes.specs.Programs.{Prog};
+ghost use Rattle.nodes.specs.Operations.{constant, identity-at-depth, is-zero, complement, union, intersect, xor, difference};
+ghost use Rattle.memory.specs.Arena.{Performs, Looks};
 ghost use Rattle.memory.specs.Noting.{LevelIs};
-ghost use Rattle.relations.specs.Ways.{Goes, way-of, lattice-tests, difference-tests};
 
 pub mod fields;
 pub mod products;
+mod shortcuts;
 
 // The operations' numbers in the memo.
 const UNION: u32 = 4;
@@ -142,50 +139,6 @@ pub fn top_at_depth(
     constant(nodes, work, s, level, 1)
 }
 
-// What the memo holds on an operation on a and b, the lesser first.
-fn ordered(work: &[u32], op: u32, level: u8, a: u32, b: u32) -> memory::Found
-    requires { ⌜ (0 < op) × (op < 16777216) ⌝ }
-    ensures { λ r. ⌜ ((node : ℕ → ℕ → Prog) (m : List ℕ) → ((x y : ℕ) → node x y ≡ memo-program op level x y)
-        → Answers rel (ask (less b a) (node b a) (node a b)) node m (now (work .entry)) r) ⌝ }
-{
-    if b < a {
-        return memory::memo::recall(work, op, level, b, a);
-    }
-    memory::memo::recall(work, op, level, a, b)
-}
-
-// What the properties of two relations, or the memo, know of their union or intersection: x where a is empty or b full, y where b is empty or a full.
-fn lattice_tests(
-    nodes: &[u32],
-    work: &[u32],
-    op: u32,
-    level: u8,
-    a: u32,
-    b: u32,
-    x: u32,
-    y: u32,
-) -> memory::Found
-    requires { ⌜ (0 < op) × (op < 16777216) ⌝ }
-    ensures { λ r. ⌜ ((node : ℕ → ℕ → Prog) → ((i j : ℕ) → node i j ≡ memo-program op level i j)
-        → Answers rel (lattice-tests level a b x y node) node (now (nodes .entry)) (now (work .entry)) r) ⌝ }
-{
-    let pa = memory::words::properties(nodes, work, 4, level, a);
-    let pb = memory::words::properties(nodes, work, 4, level, b);
-    if pa.empty {
-        return memory::Found::Answer(x);
-    }
-    if pb.universal {
-        return memory::Found::Answer(x);
-    }
-    if pb.empty {
-        return memory::Found::Answer(y);
-    }
-    if pa.universal {
-        return memory::Found::Answer(y);
-    }
-    ordered(work, op, level, a, b)
-}
-
 pub fn union(
     nodes: &mut [u32],
     work: &mut [u32],
@@ -202,7 +155,7 @@ pub fn union(
     if a == b {
         return memory::place::give(s, a);
     }
-    let found = lattice_tests(nodes, work, UNION, level, a, b, b, a);
+    let found = crate::shortcuts::lattice_tests(nodes, work, UNION, level, a, b, b, a);
     match found {
         memory::Found::Answer(h) => memory::place::give(s, h),
         memory::Found::Operands(x, y) => {
@@ -238,7 +191,7 @@ pub fn intersect(
     if a == b {
         return memory::place::give(s, a);
     }
-    let found = lattice_tests(nodes, work, INTERSECT, level, a, b, a, b);
+    let found = crate::shortcuts::lattice_tests(nodes, work, INTERSECT, level, a, b, a, b);
     match found {
         memory::Found::Answer(h) => memory::place::give(s, h),
         memory::Found::Operands(x, y) => {
@@ -258,38 +211,6 @@ pub fn intersect(
     }
 }
 
-// What was found, where no other operation answers.
-fn way_of(found: memory::Found) -> Way
-    ensures { λ r. ⌜ r ≡ way-of found ⌝ }
-{
-    match found {
-        memory::Found::Answer(h) => Way::Answer(h),
-        memory::Found::Operands(x, y) => Way::Operands(x, y),
-    }
-}
-
-// What the properties of two relations, or the memo, know of their symmetric difference; the other operation is `complement`.
-fn xor_tests(nodes: &[u32], work: &[u32], level: u8, a: u32, b: u32) -> Way
-    ensures { λ r. ⌜ Goes (xor-tests rel level a b (node2 (xor-op rel) level)) (complement rel level) (node2 (xor-op rel) level)
-        (now (nodes .entry)) (now (work .entry)) r ⌝ }
-{
-    let pa = memory::words::properties(nodes, work, 4, level, a);
-    let pb = memory::words::properties(nodes, work, 4, level, b);
-    if pa.empty {
-        return Way::Answer(b);
-    }
-    if pb.empty {
-        return Way::Answer(a);
-    }
-    if pa.universal {
-        return Way::Other(b);
-    }
-    if pb.universal {
-        return Way::Other(a);
-    }
-    way_of(ordered(work, XOR, level, a, b))
-}
-
 pub fn xor(
     nodes: &mut [u32],
     work: &mut [u32],
@@ -306,7 +227,7 @@ pub fn xor(
     if a == b {
         return zero_at_depth(nodes, work, s, level);
     }
-    let found = xor_tests(nodes, work, level, a, b);
+    let found = crate::shortcuts::xor_tests(nodes, work, level, a, b);
     match found {
         Way::Answer(h) => memory::place::give(s, h),
         Way::Other(x) => complement(nodes, work, s, level, x),
@@ -327,25 +248,6 @@ pub fn xor(
     }
 }
 
-// What the properties of two relations, or the memo, know of their difference; the other operation is `complement`.
-fn difference_tests(nodes: &[u32], work: &[u32], level: u8, a: u32, b: u32) -> Way
-    ensures { λ r. ⌜ Goes (difference-tests level a b (node2 difference-op level)) (complement rel level) (node2 difference-op level)
-        (now (nodes .entry)) (now (work .entry)) r ⌝ }
-{
-    let pa = memory::words::properties(nodes, work, 4, level, a);
-    let pb = memory::words::properties(nodes, work, 4, level, b);
-    if pa.empty {
-        return Way::Answer(a);
-    }
-    if pb.empty {
-        return Way::Answer(a);
-    }
-    if pa.universal {
-        return Way::Other(b);
-    }
-    way_of(memory::memo::recall(work, DIFFERENCE, level, a, b))
-}
-
 pub fn difference(
     nodes: &mut [u32],
     work: &mut [u32],
@@ -362,7 +264,7 @@ pub fn difference(
     if a == b {
         return zero_at_depth(nodes, work, s, level);
     }
-    let found = difference_tests(nodes, work, level, a, b);
+    let found = crate::shortcuts::difference_tests(nodes, work, level, a, b);
     match found {
         Way::Answer(h) => memory::place::give(s, h),
         Way::Other(x) => complement(nodes, work, s, level, x),

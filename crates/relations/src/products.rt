@@ -121,7 +121,7 @@ fn star_tests(nodes: &[u32], work: &[u32], level: u8, x: u32) -> crate::Way
     if p.universal {
         return crate::Way::Answer(x);
     }
-    crate::way_of(memory::memo::recall(work, STAR, level, x, 0))
+    crate::shortcuts::way_of(memory::memo::recall(work, STAR, level, x, 0))
 }
 
 // The node of a star, when the star of a + b d* c is known.

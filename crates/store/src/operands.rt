@@ -108,7 +108,15 @@ pub(crate) fn field(k: u32, var: u32, value: u32) -> crate::Check
 }
 
 // A field, and two operands of a level above it.
-pub(crate) fn branches(nodes: &[u32], c: usize, n: usize, k: u32, var: u32, a: u32, b: u32) -> crate::Check
+pub(crate) fn branches(
+    nodes: &[u32],
+    c: usize,
+    n: usize,
+    k: u32,
+    var: u32,
+    a: u32,
+    b: u32,
+) -> crate::Check
     requires { ⌜ 0 < c ⌝ }
     ensures { λ r. ⌜ ((K : Kind) → c ≡ arity K → Checks K (now (nodes .entry)) n k
         (λ S v. provided OutOfRange (ltb var k) (of-two k K S a b (λ l. provided NoChildren (ltb var l) (v l)))) r) ⌝ }
@@ -189,7 +197,14 @@ pub(crate) fn wide(x: u32) -> u64
 }
 
 // A relation, and two packets of its level.
-pub(crate) fn packets(nodes: &[u32], n: usize, k: u32, a: u32, input: u32, output: u32) -> crate::Check
+pub(crate) fn packets(
+    nodes: &[u32],
+    n: usize,
+    k: u32,
+    a: u32,
+    input: u32,
+    output: u32,
+) -> crate::Check
     requires { ⌜ k ≤ 32 ⌝ }
     ensures { λ r. ⌜ Checks rel (now (nodes .entry)) n k
         (λ S v. of-one k rel S a (λ l. provided OutOfRange (ltb input (2 ^ l)) (provided OutOfRange (ltb output (2 ^ l)) (v l)))) r ⌝ }

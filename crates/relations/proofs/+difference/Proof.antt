@@ -17,7 +17,7 @@ use Rattle.relations.proofs.+difference.Lts-difference as difference-lt
 use Rattle.memory.proofs.memo.remember.Reads as remember-reads
 use Rattle.memory.proofs.place.give.Reads as give-reads
 use Rattle.relations.proofs.complement.Reads as complement-reads
-use Rattle.relations.proofs.difference_tests.Reads as difference-tests-reads
+use Rattle.relations.proofs.shortcuts.difference_tests.Reads as difference-tests-reads
 use Rattle.relations.proofs.get.Reads as get-reads
 use Rattle.relations.proofs.mk.Reads as mk-reads
 use Rattle.relations.proofs.zero_at_depth.Reads as zero-at-depth-reads

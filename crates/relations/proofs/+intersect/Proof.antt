@@ -17,7 +17,7 @@ use Rattle.relations.proofs.+intersect.Lts-intersect as intersect-lts
 use Rattle.memory.proofs.memo.remember.Reads as remember-reads
 use Rattle.memory.proofs.place.give.Reads as give-reads
 use Rattle.relations.proofs.get.Reads as get-reads
-use Rattle.relations.proofs.lattice_tests.Reads as lattice-tests-reads
+use Rattle.relations.proofs.shortcuts.lattice_tests.Reads as lattice-tests-reads
 use Rattle.relations.proofs.mk.Reads as mk-reads
 use Rattle.relations.proofs.+intersect.{statement}
 use Rattle.relations.proofs.+intersect.Tie.{close}

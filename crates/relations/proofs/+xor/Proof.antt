@@ -20,7 +20,7 @@ use Rattle.memory.proofs.place.give.Reads as give-reads
 use Rattle.relations.proofs.complement.Reads as complement-reads
 use Rattle.relations.proofs.get.Reads as get-reads
 use Rattle.relations.proofs.mk.Reads as mk-reads
-use Rattle.relations.proofs.xor_tests.Reads as xor-tests-reads
+use Rattle.relations.proofs.shortcuts.xor_tests.Reads as xor-tests-reads
 use Rattle.relations.proofs.zero_at_depth.Reads as zero-at-depth-reads
 use Rattle.relations.proofs.+xor.{statement}
 use Rattle.relations.proofs.+xor.Tie.{close}

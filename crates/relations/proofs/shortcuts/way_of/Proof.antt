@@ -2,8 +2,8 @@
 use mathlib.Core.Path.{sym, ap}
 use borrow.Author.Needs.{needs}
 use Rattle.relations.specs.Ways.{way-of}
-use Rattle.relations.proofs.way_of.Statement.{statement}
-use Rattle.relations.proofs.way_of.Tie as tie
+use Rattle.relations.proofs.shortcuts.way_of.Statement.{statement}
+use Rattle.relations.proofs.shortcuts.way_of.Tie as tie
 
 pub way-of-spec : {M : Type 1} → statement M
 way-of-spec =

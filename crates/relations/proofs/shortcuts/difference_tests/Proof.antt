@@ -6,8 +6,8 @@ use Rattle.memory.proofs.Steps.{begin, yes, no, empty-says, universal-says}
 use Rattle.memory.proofs.Remembering.{answer-recalled}
 use Rattle.relations.proofs.Opened.{difference-memo}
 use Rattle.relations.proofs.Ways.{way-answer, way-other, way-found}
-use Rattle.relations.proofs.difference_tests.Statement.{statement}
-use Rattle.relations.proofs.difference_tests.Tie as tie
+use Rattle.relations.proofs.shortcuts.difference_tests.Statement.{statement}
+use Rattle.relations.proofs.shortcuts.difference_tests.Tie as tie
 
 pub difference-tests-spec : {M : Type 1} → statement M
 difference-tests-spec =

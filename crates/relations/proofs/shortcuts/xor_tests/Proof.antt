@@ -5,8 +5,8 @@ use Rattle.nodes.specs.Store.{rel}
 use Rattle.memory.proofs.Steps.{begin, yes, no, empty-says, universal-says}
 use Rattle.relations.proofs.Opened.{xor-memo}
 use Rattle.relations.proofs.Ways.{way-answer, way-other, way-found}
-use Rattle.relations.proofs.xor_tests.Statement.{statement}
-use Rattle.relations.proofs.xor_tests.Tie as tie
+use Rattle.relations.proofs.shortcuts.xor_tests.Statement.{statement}
+use Rattle.relations.proofs.shortcuts.xor_tests.Tie as tie
 
 pub xor-tests-spec : {M : Type 1} → statement M
 xor-tests-spec =

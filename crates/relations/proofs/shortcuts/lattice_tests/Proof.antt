@@ -4,8 +4,8 @@ use borrow.Author.Needs.{needs}
 use Rattle.nodes.specs.Store.{rel}
 use Rattle.memory.proofs.Steps.{begin, yes, no, empty-says, universal-says, answer}
 use Rattle.relations.proofs.Ways.{answers-later}
-use Rattle.relations.proofs.lattice_tests.Statement.{statement}
-use Rattle.relations.proofs.lattice_tests.Tie as tie
+use Rattle.relations.proofs.shortcuts.lattice_tests.Statement.{statement}
+use Rattle.relations.proofs.shortcuts.lattice_tests.Tie as tie
 
 pub lattice-tests-spec : {M : Type 1} → statement M
 lattice-tests-spec =

@@ -3,8 +3,8 @@ use borrow.Author.Tests.{lt-ltb, le-ltb}
 use borrow.Author.Needs.{needs}
 use Rattle.memory.proofs.Steps.{begin, yes, no, less-says}
 use Rattle.memory.proofs.Remembering.{answer-recalled}
-use Rattle.relations.proofs.ordered.Statement.{statement}
-use Rattle.relations.proofs.ordered.Tie as tie
+use Rattle.relations.proofs.shortcuts.ordered.Statement.{statement}
+use Rattle.relations.proofs.shortcuts.ordered.Tie as tie
 
 pub ordered-spec : {M : Type 1} → statement M
 ordered-spec =
