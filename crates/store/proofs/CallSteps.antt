@@ -10,10 +10,10 @@ use Rattle.nodes.specs.Store.{Kind, arity, Store}
 use Rattle.nodes.specs.Programs.{Prog}
 use Rattle.nodes.specs.Safety.{Safe}
 use Rattle.nodes.specs.WellFormed.{WellFormed}
-use Rattle.memory.specs.Arena.{arena, Performs}
+use Rattle.memory.specs.Arena.{arena, Condition, PerformsOn}
 use Rattle.memory.specs.declared.Arena.{Arena}
 use Rattle.store.specs.Calls.{Call, on-store, step}
-use Rattle.store.specs.Checking.{Checks, Answered, Ready}
+use Rattle.store.specs.Checking.{Goes, AnsweredOn, Ready}
 use Rattle.store.specs.Finishing.{Finished}
 use Rattle.store.specs.Judging.{StoreJudged}
 use Rattle.store.specs.Memory.{Memories, memory, head, count, fields, decode}
@@ -52,46 +52,47 @@ pub reading-no-store : {c : Call} (A : Reading c) {M : Memories} {w w′ : List 
 reading-no-store A {M} J f = not-store _ M (sym (J .says) ∙ f) ∙ sym (A .steps M)
 
 module _ (K : Kind) (M : Memories) (w : List ℕ) (Y : Ready K M w) (n : ℕ) (en : n ≡ count K (memory K M)) where
-  module _ {c : Call} (A : Adding K c) (r : Check) (C : Checks K (part-of K M) n (fields M) (A .judge (fields M)) r) where
+  module _ {c : Call} (A : Adding K c) (r : Check) (G : Goes (fields M) (decode M) (A .judge (fields M)) r) where
     pub adding-declined : (q : Refusal) → r ≡ No q → told (Declined q) M ≡ step c M
-    adding-declined q e = check-no K M w Y n (fields M) en refl (A .judge) r C (λ k S l. runs (A .program k l)) q e ∙ sym (A .steps M)
+    adding-declined q e = check-no M (Y .store) (A .judge) r G (λ k S l. runs (A .program k l)) q e ∙ sym (A .steps M)
 
     module _ (l : ℕ) (e : r ≡ Level l) where
       pub adding-goes : A .judge (fields M) (decode M) (λ l. runs (A .program (fields M) l)) ≡ runs (A .program (fields M) l)
-      adding-goes = check-goes K M w Y n (fields M) en refl (A .judge) r C (λ l. runs (A .program (fields M) l)) l e
+      adding-goes = check-goes M (Y .store) (A .judge) r G (λ l. runs (A .program (fields M) l)) l e
 
       pub adding-low : l < 256
-      adding-low = let h = check-low K M w Y n (fields M) en refl (A .judge) r C l e in omega arith
+      adding-low = let h = check-low M (Y .store) (A .judge) r G l e in omega arith
 
       safe-here : Safe (A .program (fields M) l) (decode M)
       safe-here = A .safe (fields M) (decode M) _ (Y .store .formed) adding-goes
 
-      module _ (k′ l′ : ℕ) (b w′ : List ℕ) (s : Arena) (ek : k′ ≡ fields M) (el : l′ ≡ l)
-          (P : Performs K (A .program k′ l′) (arena true n 0) (part-of K M) b w w′ s) where
+      module _ {Q : Condition} (on : Q (decode M)) (k′ l′ : ℕ) (b w′ : List ℕ) (s : Arena) (ek : k′ ≡ fields M) (el : l′ ≡ l)
+          (P : PerformsOn Q K (A .program k′ l′) (arena true n 0) (part-of K M) b w w′ s) where
         same : A .program k′ l′ ≡ A .program (fields M) l
         same i = A .program (ek i) (el i)
 
         pub adding-within : (n ≤ s .n) × (s .n ≤ 4096)
             × (head K + arity K * s .n ≤ length (putMid (head K) (length (memory K M) - head K) (memory K M) b))
-        adding-within = within-memory K M w Y n (fields M) en refl _ _ b w′ s same safe-here P
+        adding-within = within-memory K M w Y n en on _ _ b w′ s same safe-here P
 
         pub adding-ran : (m′ : List ℕ) (a : Answer) → Finished (putMid (head K) (length (memory K M) - head K) (memory K M) b) m′ (head K) (arity K) n s a
             → told a (with-memory K m′ M) ≡ step c M
-        adding-ran m′ a F = ran-here K M w Y n (fields M) en refl _ _ b w′ s same safe-here P _ m′ a adding-goes F ∙ sym (A .steps M)
+        adding-ran m′ a F = ran-here K M w Y n en on _ _ b w′ s same safe-here P _ m′ a adding-goes F ∙ sym (A .steps M)
 
-  module _ {c : Call} (A : Reading c) (r : Check) (C : Checks K (part-of K M) n (fields M) (A .judge (fields M)) r) where
+  module _ {c : Call} (A : Reading c) (r : Check) (G : Goes (fields M) (decode M) (A .judge (fields M)) r) where
     pub reading-declined : (q : Refusal) → r ≡ No q → told (Declined q) M ≡ step c M
-    reading-declined q e = check-no K M w Y n (fields M) en refl (A .judge) r C (λ k S l. gives (A .answer S l)) q e ∙ sym (A .steps M)
+    reading-declined q e = check-no M (Y .store) (A .judge) r G (λ k S l. gives (A .answer S l)) q e ∙ sym (A .steps M)
 
     module _ (l : ℕ) (e : r ≡ Level l) where
       pub reading-low : l ≤ 32
-      reading-low = check-low K M w Y n (fields M) en refl (A .judge) r C l e
+      reading-low = check-low M (Y .store) (A .judge) r G l e
 
-      pub reading-told : (l′ : ℕ) (a : Answer) → l′ ≡ l → Answered K (part-of K M) w n (λ S. A .needs S l′) (λ S. A .answer S l′) a → told a M ≡ step c M
-      reading-told l′ a el T =
+      pub reading-told : {Q : Condition} → Q (decode M) → (l′ : ℕ) (a : Answer) → l′ ≡ l
+          → AnsweredOn Q K (part-of K M) w n (λ S. A .needs S l′) (λ S. A .answer S l′) a → told a M ≡ step c M
+      reading-told on l′ a el T =
           let go : (v : ℕ → Verdict) → A .judge (fields M) (decode M) v ≡ v l
-          = λ v. check-goes K M w Y n (fields M) en refl (A .judge) r C v l e in
+          = λ v. check-goes M (Y .store) (A .judge) r G v l e in
           let H = ready-here K M w n Y en in
           let s = subst (λ S. A .needs S l′) (sym (H .nodes)) (subst (A .needs (decode M)) (sym el) (A .safe (fields M) (decode M) l (Y .store .formed) go)) in
-          let x : a ≡ A .answer (decode M) l = T .answers (decode M) (H .room) (H .right) s ∙ (λ i. A .answer (H .nodes i) (el i)) in
+          let x : a ≡ A .answer (decode M) l = T .answers (decode M) on (H .room) (H .right) s ∙ (λ i. A .answer (H .nodes i) (el i)) in
           given _ M (Y .store) a (go (λ l. gives (A .answer (decode M) l)) ∙ ap gives (sym x)) ∙ sym (A .steps M)

@@ -103,7 +103,7 @@ module _ (k : ℕ) (M : Memories) (w : List ℕ) (G : Begun k M w) where
 
   module _ (b w₁ : List ℕ) (s : Arena) (P : Performs set (set-constants k) (arena true 0 0) (part-of set M) b w w₁ s) where
     pub fill-within-sets : (0 ≤ s .n) × (s .n ≤ 4096) × (1 + 2 * s .n ≤ length (putMid 1 (length (M .sets) - 1) (M .sets) b))
-    fill-within-sets = within-memory set M w ready-sets 0 (fields M) (none set) refl (set-constants k) (set-constants k) b w₁ s refl sets-safe P
+    fill-within-sets = within-memory set M w ready-sets 0 (none set) tt (set-constants k) (set-constants k) b w₁ s refl sets-safe P
 
     module _ (s′ : List ℕ) (a : Answer) (F : Finished (putMid 1 (length (M .sets) - 1) (M .sets) b) s′ 1 2 0 s a) where
       abbrev M₁ : Memories
@@ -111,7 +111,7 @@ module _ (k : ℕ) (M : Memories) (w : List ℕ) (G : Begun k M w) where
 
       first : M₁ ≡ encode k S₁ M
       first =
-          let t = ran-here set M w ready-sets 0 (fields M) (none set) refl (set-constants k) (set-constants k) b w₁ s refl sets-safe P
+          let t = ran-here set M w ready-sets 0 (none set) tt (set-constants k) (set-constants k) b w₁ s refl sets-safe P
           (λ k S. runs _) s′ a refl F in
           let f : fits-places (set-places M) (rel-places M) (run (set-constants k) (decode M) .store) ≡ true
           = ap (λ R. fits-places (set-places M) (rel-places M) (R .store)) same-first ∙ T-true _ first-fits in
@@ -138,7 +138,7 @@ module _ (k : ℕ) (M : Memories) (w : List ℕ) (G : Begun k M w) where
       fields-first = ap fields first ∙ encode-fields k S₁ M
 
       ran : Runs set (set-constants k) (decode M) (arena true (count set (M .sets)) 0) (body set (M .sets)) b w w₁ s
-      ran = runs-here set M w ready-sets 0 (fields M) (none set) refl (set-constants k) (set-constants k) b w₁ s refl sets-safe P
+      ran = runs-here set M w ready-sets 0 (none set) tt (set-constants k) (set-constants k) b w₁ s refl sets-safe P
 
       same-run : run (set-constants k) (plain set (decode M) (body set (M .sets)) (count set (M .sets))) ≡ run (set-constants k) blank
       same-run = ap (run (set-constants k)) (decoded set M) ∙ same-first
@@ -174,13 +174,13 @@ module _ (k : ℕ) (M : Memories) (w : List ℕ) (G : Begun k M w) where
         module _ (d w₃ : List ℕ) (r : Arena) (Q : Performs rel (relation-constants k) (arena true 0 0) (part-of rel M₁) d w₂ w₃ r) where
           pub fill-within-relations : (0 ≤ r .n) × (r .n ≤ 4096) × (2 + 4 * r .n ≤ length (putMid 2 (length (M .relations) - 2) (M .relations) d))
           fill-within-relations =
-              within-memory rel M₁ w₂ ready-relations 0 (fields M₁) none-first refl (relation-constants k) (relation-constants k) d w₃ r refl relations-safe Q
+              within-memory rel M₁ w₂ ready-relations 0 none-first tt (relation-constants k) (relation-constants k) d w₃ r refl relations-safe Q
 
           pub filled : (r′ : List ℕ) (c : Answer) → Finished (putMid 2 (length (M .relations) - 2) (M .relations) d) r′ 2 4 0 r c
               → Created k M (memories r′ s′) c
           filled r′ c H =
               let p = relation-constants k in
-              let t = ran-here rel M₁ w₂ ready-relations 0 (fields M₁) none-first refl p p d w₃ r refl relations-safe Q
+              let t = ran-here rel M₁ w₂ ready-relations 0 none-first tt p p d w₃ r refl relations-safe Q
               (λ k S. runs _) r′ c refl H in
               let e : run (relation-constants k) (decode M₁) ≡ run (new k) blank = ap (run (relation-constants k)) read-first ∙ sym (in-two k) in
               let f : fits-places (set-places M₁) (rel-places M₁) (run (relation-constants k) (decode M₁) .store) ≡ true

@@ -4,12 +4,12 @@ use mathlib.Core.Bool.{Bool, true, false}
 use Prim.Native.Nat.{ℕ, zero, suc, _<_, _≤_}
 use native.Mathlib.Omega.{arith}
 use lib.Dec.{ltb, eqb, T, ltb→lt}
-use Rattle.nodes.specs.Store.{Kind, Store}
+use Rattle.nodes.specs.Store.{Kind, set, rel, Store}
 use Rattle.nodes.specs.Programs.{Prog, panic}
 use Rattle.nodes.specs.WellFormed.{Held, WellFormed, is-held, level-of}
 use Rattle.nodes.proofs.Bools.{eqb-iff}
 use Rattle.nodes.proofs.Rules.{Does}
-use Rattle.store.specs.Outcome.{Verdict, declines, gives, runs, provided, of-one, of-two, of-four}
+use Rattle.store.specs.Outcome.{Verdict, declines, gives, runs, provided, of-one, of-pair, of-two, of-four, of-path}
 use Rattle.store.specs.declared.Answer.{Answer}
 use Rattle.store.specs.declared.Answer.the-variants.{Handle, Truth, SetNode, RelationNode, Declined}
 use Rattle.store.specs.declared.Refusal.{Refusal}
@@ -41,15 +41,6 @@ module _ {k : ℕ} {S : Store} {u : Verdict} (K : Kind) (F : WellFormed k S) (g 
   unfolding of-one
   one-went a v e = let t = provided-went _ _ g e in let h = held-here K F a (t .0) in (record { low = h .0; held = h .1 }, t .1)
 
-  pub two-went : (a b : ℕ) (v : ℕ → Verdict) → of-two k K S a b v ≡ u
-      → Operand k K S (level-of k K S a) a × Operand k K S (level-of k K S a) b × (v (level-of k K S a) ≡ u)
-  unfolding of-two
-  two-went a b v e =
-      let s = one-went a _ e in
-      let t = one-went b _ (s .1) in
-      let q = provided-went _ _ g (t .1) in
-      (s .0, subst (λ l. Operand k K S l b) (eqb-iff _ _ .0 (subst T (sym (q .0)) tt)) (t .0), q .1)
-
   pub four-went : (a b c d : ℕ) (v : ℕ → Verdict) → of-four k K S a b c d v ≡ u → (let l = level-of k K S a in
       Operand k K S l a × Operand k K S l b × Operand k K S l c × Operand k K S l d × (v l ≡ u))
   unfolding of-four
@@ -63,6 +54,31 @@ module _ {k : ℕ} {S : Store} {u : Verdict} (K : Kind) (F : WellFormed k S) (g 
     where
       at : {l : ℕ} (x : ℕ) → is-held K S x ≡ true → eqb (level-of k K S x) l ≡ true → Operand k K S l x
       at x e f = let h = held-here K F x e in subst (λ l. Operand k K S l x) (eqb-iff _ _ .0 (subst T (sym f) tt)) (record { low = h .0; held = h .1 })
+
+-- operands of two kinds, and two of one
+module _ {k : ℕ} {S : Store} {u : Verdict} (K J : Kind) (F : WellFormed k S) (g : Goes u) (a b : ℕ) (v : ℕ → Verdict) where
+  pub pair-went : of-pair k S K a J b v ≡ u → Operand k K S (level-of k K S a) a × Operand k J S (level-of k K S a) b × (v (level-of k K S a) ≡ u)
+  unfolding of-pair
+  pair-went e =
+      let s = one-went K F g a _ e in
+      let t = one-went J F g b _ (s .1) in
+      let q = provided-went _ _ g (t .1) in
+      (s .0, subst (λ l. Operand k J S l b) (eqb-iff _ _ .0 (subst T (sym (q .0)) tt)) (t .0), q .1)
+
+pub two-went : {k : ℕ} {S : Store} {u : Verdict} (K : Kind) → WellFormed k S → Goes u → (a b : ℕ) (v : ℕ → Verdict) → of-two k K S a b v ≡ u
+    → Operand k K S (level-of k K S a) a × Operand k K S (level-of k K S a) b × (v (level-of k K S a) ≡ u)
+two-went K = pair-went K K
+
+-- a set, a relation and a set
+pub path-went : {k : ℕ} {S : Store} {u : Verdict} → WellFormed k S → Goes u → (p a q : ℕ) (v : ℕ → Verdict) → of-path k S p a q v ≡ u
+    → (let l = level-of k rel S a in Operand k set S l p × Operand k rel S l a × Operand k set S l q × (v l ≡ u))
+unfolding of-path
+path-went {k} {S} F g p a q v e =
+    let s = provided-went _ _ g e in
+    let h = held-here set F q (s .0) in
+    let t = pair-went rel set F g a p _ (s .1) in
+    let u = provided-went _ _ g (t .2) in
+    (t .1, t .0, subst (λ l. Operand k set S l q) (eqb-iff _ _ .0 (subst T (sym (u .0)) tt)) (record { low = h .0; held = h .1 }), u .1)
 
 pub less : (a b : ℕ) → ltb a b ≡ true → a < b
 less a b e = ltb→lt a b (subst T (sym e) tt)

@@ -1,4 +1,4 @@
--- Operands and their levels: what `of-one` and `of-two` come to where a function says which handles are held, and at which level.
+-- Operands and their levels: what `of-one`, `of-pair` and their fellows come to where a function says which handles are held, and at which level.
 use mathlib.Core.Path.{_≡_, refl, sym, ap, _∙_, subst}
 use mathlib.Core.List.{List}
 use mathlib.Core.Bool.{Bool, true, false, _||_, _&&_}
@@ -13,7 +13,7 @@ use Rattle.nodes.proofs.Levels.{level-is, held-at}
 use Rattle.memory.specs.Noting.{LevelIs}
 use Rattle.memory.specs.Rows.{places, plain}
 use Rattle.memory.proofs.Steps.{false≢true}
-use Rattle.store.specs.Outcome.{Verdict, declines, provided, of-one, of-two, of-four}
+use Rattle.store.specs.Outcome.{Verdict, declines, provided, of-one, of-pair, of-four, of-path}
 use Rattle.store.specs.Checking.{checked}
 use Rattle.store.specs.declared.Check.{Check}
 use Rattle.store.specs.declared.Check.the-variants.{Level, No}
@@ -48,25 +48,6 @@ module _ {k : ℕ} {S : Store} (K : Kind) (F : WellFormed k S) where
   unfolding of-one
   one-is a l v e f = provided-yes _ _ _ e ∙ ap v (sym f)
 
-  pub two-first : (a b : ℕ) (v : ℕ → Verdict) → is-held K S a ≡ false → of-two k K S a b v ≡ declines NotHeld
-  unfolding of-two
-  two-first a b v e = one-none a _ e
-
-  pub two-second : (a b : ℕ) (v : ℕ → Verdict) → is-held K S a ≡ true → is-held K S b ≡ false → of-two k K S a b v ≡ declines NotHeld
-  unfolding of-two
-  two-second a b v e f = one-is a _ _ e refl ∙ one-none b _ f
-
-  module _ (a b l j : ℕ) (v : ℕ → Verdict) (e : is-held K S a ≡ true) (f : is-held K S b ≡ true) (p : l ≡ level-of k K S a) (q : j ≡ level-of k K S b) where
-    levels : of-two k K S a b v ≡ provided LevelsDiffer (eqb j l) (v l)
-    unfolding of-two
-    levels = one-is a l _ e p ∙ one-is b j _ f q
-
-    pub two-apart : (j ≡ l → ⊥) → of-two k K S a b v ≡ declines LevelsDiffer
-    two-apart n = levels ∙ provided-no _ _ _ (ne-eqb j l n)
-
-    pub two-are : j ≡ l → of-two k K S a b v ≡ v l
-    two-are n = levels ∙ provided-yes _ _ _ (eq-eqb j l n)
-
   -- four operands: all held, all at one level
   module _ (a b c d : ℕ) (v : ℕ → Verdict) where
     pub four-none : (is-held K S a && (is-held K S b && (is-held K S c && is-held K S d))) ≡ false → of-four k K S a b c d v ≡ declines NotHeld
@@ -85,6 +66,27 @@ module _ {k : ℕ} {S : Store} (K : Kind) (F : WellFormed k S) where
 
       pub four-are : (eqb (level-of k K S b) l && (eqb (level-of k K S c) l && eqb (level-of k K S d) l)) ≡ true → of-four k K S a b c d v ≡ v l
       four-are q = at-levels true q ∙ provided-yes _ _ _ refl
+
+-- two operands of the kinds K and J
+module _ {k : ℕ} {S : Store} (K J : Kind) (F : WellFormed k S) (a b : ℕ) (v : ℕ → Verdict) where
+  pub pair-first : is-held K S a ≡ false → of-pair k S K a J b v ≡ declines NotHeld
+  unfolding of-pair
+  pair-first e = one-none K F a _ e
+
+  pub pair-second : is-held K S a ≡ true → is-held J S b ≡ false → of-pair k S K a J b v ≡ declines NotHeld
+  unfolding of-pair
+  pair-second e f = one-is K F a _ _ e refl ∙ one-none J F b _ f
+
+  module _ (l j : ℕ) (e : is-held K S a ≡ true) (f : is-held J S b ≡ true) (p : l ≡ level-of k K S a) (q : j ≡ level-of k J S b) where
+    levels : of-pair k S K a J b v ≡ provided LevelsDiffer (eqb j l) (v l)
+    unfolding of-pair
+    levels = one-is K F a l _ e p ∙ one-is J F b j _ f q
+
+    pub pair-apart : (j ≡ l → ⊥) → of-pair k S K a J b v ≡ declines LevelsDiffer
+    pair-apart n = levels ∙ provided-no _ _ _ (ne-eqb j l n)
+
+    pub pair-are : j ≡ l → of-pair k S K a J b v ≡ v l
+    pair-are n = levels ∙ provided-yes _ _ _ (eq-eqb j l n)
 
 -- each of four tests
 pub all-four : (a b c d : Bool) → (a && (b && (c && d))) ≡ true → (a ≡ true) × (b ≡ true) × (c ≡ true) × (d ≡ true)

@@ -11,10 +11,10 @@ use Rattle.nodes.specs.Programs.{Prog}
 use Rattle.nodes.specs.Safety.{Within, Safe, ReadOnly}
 use Rattle.nodes.proofs.ReadOnly.{run-same}
 use Rattle.memory.specs.Rows.{places, plain}
-use Rattle.memory.specs.Arena.{arena, ends, Performs, Looks}
+use Rattle.memory.specs.Arena.{arena, ends, Condition, PerformsOn, Looks}
 use Rattle.memory.specs.declared.Arena.{Arena}
 use Rattle.memory.proofs.Rows.{plain-length}
-use Rattle.store.specs.Checking.{Answered}
+use Rattle.store.specs.Checking.{AnsweredOn}
 use Rattle.store.specs.Outcome.{yes-no}
 use Rattle.store.specs.declared.Answer.{Answer}
 use Rattle.store.specs.declared.Answer.the-variants.{Truth}
@@ -24,20 +24,20 @@ fits : (K : Kind) (p : Prog) (S : Store) (q : ℕ) → ReadOnly p → length (no
 unfolding ends
 fits K p S q o f = le-leb _ _ (subst (λ T. length (nodes K T) ≤ q) (sym (run-same p S o)) f)
 
-module _ {K : Kind} {m w : List ℕ} {n : ℕ} {safe : Store → Type 0} {answer : Store → Answer} where
+module _ {Q : Condition} {K : Kind} {m w : List ℕ} {n : ℕ} {safe : Store → Type 0} {answer : Store → Answer} where
   pub reads-truth : {p : Prog} {r : Arena} {w′ : List ℕ} → ReadOnly p → ((S : Store) → safe S → Safe p S)
-      → ((S : Store) → answer S ≡ yes-no p S) → Performs K p (arena true n 0) m m w w′ r → Answered K m w n safe answer (Truth (eqb (r .h) 1))
+      → ((S : Store) → answer S ≡ yes-no p S) → PerformsOn Q K p (arena true n 0) m m w w′ r → AnsweredOn Q K m w n safe answer (Truth (eqb (r .h) 1))
   reads-truth {p} {r} o s y P = record {
-    answers = λ B f R t.
+    answers = λ B c f R t.
         let S = plain K B m n in
-        let T = P .runs B tt (record { room = f; live = λ _. record { safe = s S t; work = R } }) in
+        let T = P .runs B c (record { room = f; live = λ _. record { safe = s S t; work = R } }) in
         let k : r .ok ≡ true = T .okay ∙ fits K p S (places (arity K) m) o (subst (λ z. z ≤ places (arity K) m) (sym (plain-length K B m n)) f) in
         ap (λ h. Truth (eqb h 1)) (T .done k .value) ∙ sym (y S);
   }
 
   pub reads-node : {a : ℕ} {x : List ℕ} (f : List ℕ → Answer) → ((S : Store) → safe S → Within K S a) → ((S : Store) → answer S ≡ f (get K S a))
-      → Looks K m a x → Answered K m w n safe answer (f x)
-  reads-node f s y L = record { answers = λ B e R t. ap f (sym (L .kids B n e (s (plain K B m n) t))) ∙ sym (y (plain K B m n)) }
+      → Looks K m a x → AnsweredOn Q K m w n safe answer (f x)
+  reads-node f s y L = record { answers = λ B c e R t. ap f (sym (L .kids B n e (s (plain K B m n) t))) ∙ sym (y (plain K B m n)) }
 
-  pub reads-number : {r : Answer} → ((S : Store) → answer S ≡ r) → Answered K m w n safe answer r
-  reads-number y = record { answers = λ B e R t. sym (y (plain K B m n)) }
+  pub reads-number : {r : Answer} → ((S : Store) → answer S ≡ r) → AnsweredOn Q K m w n safe answer r
+  reads-number y = record { answers = λ B c e R t. sym (y (plain K B m n)) }

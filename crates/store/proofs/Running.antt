@@ -8,21 +8,22 @@ use lib.ListN.{length, take, drop, length-append}
 use lib.Seq.{length-take-le}
 use lib.Dec.{T}
 use borrow.Rule.Slice.PartMut.{putMid}
-use Rattle.nodes.specs.Store.{Kind, arity, Store}
+use Rattle.nodes.specs.Store.{Kind, set, rel, arity, Store, nodes}
 use Rattle.nodes.specs.Programs.{Prog}
 use Rattle.nodes.specs.Safety.{Safe}
 use Rattle.nodes.specs.WellFormed.{WellFormed}
-use Rattle.memory.specs.Arena.{arena, Performs, Runs}
-use Rattle.memory.specs.Rows.{places, plain}
+use Rattle.memory.specs.Arena.{arena, other, Condition, PerformsOn, Beside, Runs}
+use Rattle.memory.specs.Rows.{rows, places, plain}
 use Rattle.memory.specs.Working.{Right}
 use Rattle.memory.specs.declared.Arena.{Arena}
 use Rattle.memory.proofs.Rows.{places-fit}
 use Rattle.store.specs.Calls.{on-store}
-use Rattle.store.specs.Checking.{checked, Low, Checks, Ready}
+use Rattle.store.specs.Checking.{checked, Low, Goes, Checks, ChecksBoth, Ready}
 use Rattle.store.specs.Finishing.{Finished}
-use Rattle.store.specs.Judging.{kind-last, StoreJudged}
+use Rattle.store.specs.Judging.{kind-last, both, StoreJudged}
 use Rattle.store.specs.Memory.{Memories, memory, head, count, fields, body, decode}
 use Rattle.store.specs.Outcome.{Verdict, declines, runs, told}
+use Rattle.store.specs.Valid.{IsStore}
 use Rattle.store.specs.declared.Answer.{Answer}
 use Rattle.store.specs.declared.Answer.the-variants.{Declined}
 use Rattle.store.specs.declared.Check.{Check}
@@ -54,7 +55,47 @@ ready-here K M w n Y en = let e = whole-part (head K) (memory K M) in record {
   right = subst (λ b. Right K (decode M) w b n) (sym e) (subst (λ n. Right K (decode M) w (body K (memory K M)) n) (sym en) (Y .right));
 }
 
-module _ (K : Kind) (M : Memories) (w : List ℕ) (Y : Ready K M w) (n k : ℕ) (en : n ≡ count K (memory K M)) (ek : k ≡ fields M) where
+-- A CHECK that says how the call goes on
+module _ (M : Memories) (s : IsStore M) (judge : ℕ → Store → (ℕ → Verdict) → Verdict) (r : Check) (G : Goes (fields M) (decode M) (judge (fields M)) r) where
+  pub check-no : (v : ℕ → Store → ℕ → Verdict) (q : Refusal) → r ≡ No q → told (Declined q) M ≡ on-store (λ k S. judge k S (v k S)) M
+  check-no v q e = declined _ M s q (G .says _ ∙ ap (λ r. checked r (v (fields M) (decode M))) e)
+
+  pub check-goes : (v : ℕ → Verdict) (l : ℕ) → r ≡ Level l → judge (fields M) (decode M) v ≡ v l
+  check-goes v l e = G .says v ∙ ap (λ r. checked r v) e
+
+  pub check-low : (l : ℕ) → r ≡ Level l → l ≤ 32
+  check-low l e = let h = subst (Low (fields M)) e (G .low) in let f = s .few in omega arith
+
+pub checked-here : {K : Kind} {M : Memories} {w : List ℕ} {n : ℕ} {judge : Store → (ℕ → Verdict) → Verdict} {r : Check} → Ready K M w
+    → n ≡ count K (memory K M) → Checks K (part-of K M) n (fields M) judge r → Goes (fields M) (decode M) judge r
+checked-here {K} {M} {w} {n} {judge} {r} Y en C = let H = ready-here K M w n Y en in record {
+  says = λ v. subst (λ S. judge S v ≡ checked r v) (H .nodes) (C .says (decode M) (H .room) (subst (WellFormed (fields M)) (sym (H .nodes)) (Y .store .formed)) v);
+  low = C .low;
+}
+
+nodes-are : (M : Memories) (K : Kind) → nodes K (decode M) ≡ rows (arity K) (count K (memory K M)) (body K (memory K M))
+unfolding decode
+nodes-are M set = refl
+nodes-are M rel = refl
+
+-- BOTH KINDS: the nodes in the two parts are the store's own
+module _ (M : Memories) (s : IsStore M) where
+  pub beside-here : (K : Kind) (j : ℕ) → j ≡ count (other K) (memory (other K) M) → Beside K (part-of (other K) M) j (decode M)
+  beside-here K j e = let L = other K in let q = whole-part (head L) (memory L M) in record {
+    read = nodes-are M L ∙ sym (λ i. rows (arity L) (e i) (q i));
+    within = subst (λ b. j ≤ places (arity L) b) (sym q) (subst (λ j. j ≤ places (arity L) (body L (memory L M))) (sym e) (s .room L .within));
+  }
+
+  pub both-here : {judge : Store → (ℕ → Verdict) → Verdict} {r : Check} {n j : ℕ} → n ≡ count rel (M .relations) → j ≡ count set (M .sets)
+      → ChecksBoth (part-of rel M) n (part-of set M) j (fields M) judge r → Goes (fields M) (decode M) judge r
+  both-here {judge} {r} {n} {j} en ej C =
+      let a = beside-here set n en in
+      let b = beside-here rel j ej in
+      let e : both rel (part-of rel M) n (part-of set M) j ≡ decode M = λ i. record { sets = sym (b .read) i; rels = sym (a .read) i } in
+      subst (λ S. Goes (fields M) S judge r) e (C .goes (a .within) (b .within) (subst (WellFormed (fields M)) (sym e) (s .formed)))
+
+-- A PROGRAM of the kind K
+module _ (K : Kind) (M : Memories) (w : List ℕ) (Y : Ready K M w) (n : ℕ) (en : n ≡ count K (memory K M)) where
   abbrev m : List ℕ
   m = memory K M
 
@@ -64,27 +105,13 @@ module _ (K : Kind) (M : Memories) (w : List ℕ) (Y : Ready K M w) (n k : ℕ) 
   H : Here K M w n
   H = ready-here K M w n Y en
 
-  module _ (judge : ℕ → Store → (ℕ → Verdict) → Verdict) (r : Check) (C : Checks K part n k (judge k) r) where
-    pub check-says : (v : ℕ → Verdict) → judge (fields M) (decode M) v ≡ checked r v
-    check-says v =
-        subst (λ k. judge k (decode M) v ≡ checked r v) ek (subst (λ S. judge k S v ≡ checked r v) (H .nodes) (C .says (decode M) (H .room)
-        (subst (WellFormed k) (sym (H .nodes)) (subst (λ k. WellFormed k (decode M)) (sym ek) (Y .store .formed))) v))
-
-    pub check-no : (v : ℕ → Store → ℕ → Verdict) (q : Refusal) → r ≡ No q → told (Declined q) M ≡ on-store (λ k S. judge k S (v k S)) M
-    check-no v q e = declined _ M (Y .store) q (check-says _ ∙ ap (λ r. checked r (v (fields M) (decode M))) e)
-
-    pub check-goes : (v : ℕ → Verdict) (l : ℕ) → r ≡ Level l → judge (fields M) (decode M) v ≡ v l
-    check-goes v l e = check-says v ∙ ap (λ r. checked r v) e
-
-    pub check-low : (l : ℕ) → r ≡ Level l → l ≤ 32
-    check-low l e = let h = subst (Low k) e (C .low) in let f = Y .store .few in omega (arith, ek)
-
-  module _ (p q : Prog) (b w′ : List ℕ) (r : Arena) (eq : q ≡ p) (s : Safe p (decode M)) (P : Performs K q (arena true n 0) part b w w′ r) where
+  module _ {Q : Condition} (on : Q (decode M)) (p q : Prog) (b w′ : List ℕ) (r : Arena) (eq : q ≡ p) (s : Safe p (decode M))
+      (P : PerformsOn Q K q (arena true n 0) part b w w′ r) where
     pub runs-here : Runs K p (decode M) (arena true (count K m) 0) (body K m) b w w′ r
     runs-here =
         subst (λ n. Runs K p (decode M) (arena true n 0) (body K m) b w w′ r) en
         (subst (λ x. Runs K p (decode M) (arena true n 0) x b w w′ r) (whole-part (head K) m)
-        (subst (λ p. Runs K p (decode M) (arena true n 0) part b w w′ r) eq (P .runs (decode M) tt (record {
+        (subst (λ p. Runs K p (decode M) (arena true n 0) part b w w′ r) eq (P .runs (decode M) on (record {
           room = H .room;
           live = λ _. record { safe = subst (Safe q) (sym (H .nodes)) (subst (λ p. Safe p (decode M)) (sym eq) s); work = H .right };
         }))))

@@ -2,7 +2,7 @@
 use mathlib.Core.Bool.{Bool, true, false, _&&_}
 use Prim.Native.Nat.{ℕ}
 use lib.Dec.{eqb}
-use Rattle.nodes.specs.Store.{Kind, Store, pick}
+use Rattle.nodes.specs.Store.{Kind, set, rel, Store, pick}
 use Rattle.nodes.specs.Programs.{Prog, run}
 use Rattle.nodes.specs.Places.{fits-places}
 use Rattle.nodes.specs.WellFormed.{is-held, level-of}
@@ -26,9 +26,17 @@ provided r false v = declines r
 unfoldable pub of-one : ℕ → Kind → Store → ℕ → (ℕ → Verdict) → Verdict
 of-one k K S a v = provided NotHeld (is-held K S a) (v (level-of k K S a))
 
--- 01: "3 levels differ"; the call goes on with the level of both
-unfoldable pub of-two : ℕ → Kind → Store → ℕ → ℕ → (ℕ → Verdict) → Verdict
-of-two k K S a b v = of-one k K S a (λ l. of-one k K S b (λ j. provided LevelsDiffer (eqb j l) (v l)))
+-- 01: "3 levels differ", of an operand of kind K and one of kind J; the call goes on with the level of both
+unfoldable pub of-pair : ℕ → Store → Kind → ℕ → Kind → ℕ → (ℕ → Verdict) → Verdict
+of-pair k S K a J b v = of-one k K S a (λ l. of-one k J S b (λ j. provided LevelsDiffer (eqb j l) (v l)))
+
+-- two operands of one kind
+abbrev pub of-two : ℕ → Kind → Store → ℕ → ℕ → (ℕ → Verdict) → Verdict
+of-two k K S a b v = of-pair k S K a K b v
+
+-- the same of a set p, a relation a and a set q: 2 of any comes before 3
+unfoldable pub of-path : ℕ → Store → ℕ → ℕ → ℕ → (ℕ → Verdict) → Verdict
+of-path k S p a q v = provided NotHeld (is-held set S q) (of-pair k S rel a set p (λ l. provided LevelsDiffer (eqb (level-of k set S q) l) (v l)))
 
 -- the same of four operands: 2 of any comes before 3
 unfoldable pub of-four : ℕ → Kind → Store → ℕ → ℕ → ℕ → ℕ → (ℕ → Verdict) → Verdict

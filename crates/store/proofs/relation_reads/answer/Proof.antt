@@ -32,7 +32,7 @@ returns-2 c =
     of-call _ (c4 .call2 .given .1) (reads-truth (is-zero-read-only rel _ _) (λ S s. s) (λ S. refl) (c .before .is-zero .ensures))
 
 returns-3 : tie.Need-returns-3
-returns-3 c = of-call _ (c .before .before .call3 .given .1) (record { answers = λ B f R s. ap Truth (c .relates .ensures B _ f s) })
+returns-3 c = of-call _ (c .before .before .call3 .given .1) (record { answers = λ B q f R s. ap Truth (c .relates .ensures B _ f s) })
 
 pub answer-spec : {M : Type 1} → statement M
 answer-spec =
