@@ -13,7 +13,7 @@ use Rattle.nodes.proofs.Levels.{level-is, held-at}
 use Rattle.memory.specs.Noting.{LevelIs}
 use Rattle.memory.specs.Rows.{places, plain}
 use Rattle.memory.proofs.Steps.{false≢true}
-use Rattle.store.specs.Outcome.{Verdict, declines, provided, of-one, of-pair, of-four, of-path}
+use Rattle.store.specs.Outcome.{Verdict, declines, provided, of-one, of-pair, of-four}
 use Rattle.store.specs.Checking.{checked}
 use Rattle.store.specs.declared.Check.{Check}
 use Rattle.store.specs.declared.Check.the-variants.{Level, No}

@@ -5,6 +5,7 @@ pub mod Rooms
 pub mod Both
 pub mod Whole
 pub mod Handles
+pub mod TwoKinds
 pub mod Reading
 pub mod Writing
 pub mod Encoding
@@ -13,10 +14,12 @@ pub mod Walking
 pub mod Going
 pub mod SetMeant
 pub mod RelationMeant
+pub mod ImageMeant
 pub mod Running
 pub mod CallSteps
 pub mod SetSteps
 pub mod RelationSteps
+pub mod ImageSteps
 pub mod Creating
 pub mod Filling
 pub mod CallMeans

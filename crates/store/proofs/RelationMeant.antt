@@ -30,7 +30,7 @@ use Rattle.store.proofs.Going.{Operand, provided-went, one-went, two-we
 -- CALLS THAT MAY ADD RELATIONS
 module _ {k : ℕ} {S : Store} {p : Prog} (F : WellFormed k S) where
   -- an operation on one relation, and on two of one level
-  single : (a : ℕ) (f : ℕ → Prog) (φ : ℕ → Store → ℕ → Type 0) → of-one k rel S a (λ l. runs (f l)) ≡ runs p
+  pub single : (a : ℕ) (f : ℕ → Prog) (φ : ℕ → Store → ℕ → Type 0) → of-one k rel S a (λ l. runs (f l)) ≡ runs p
       → ((l : ℕ) → l ≤ k → Relates l (relates S a) S a → Does k S (f l) (φ l)) → Does k S p (φ (level-of k rel S a))
   single a f φ e D = let t = one-went rel F tt a _ e in does-as (t .1) (D (level-of k rel S a) (t .0 .low) (relates-own S _ a (t .0 .held)))
 

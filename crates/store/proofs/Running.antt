@@ -48,10 +48,18 @@ pub record Here (K : Kind) (M : Memories) (w : List ℕ) (n : ℕ) : Type 0 wher
   pub room : n ≤ places (arity K) (part-of K M)
   pub right : Right K (decode M) w (part-of K M) n
 
+module _ (K : Kind) (M : Memories) (s : IsStore M) (n : ℕ) (en : n ≡ count K (memory K M)) where
+  nodes-here : plain K (decode M) (part-of K M) n ≡ decode M
+  nodes-here = (λ i. plain K (decode M) (whole-part (head K) (memory K M) i) (en i)) ∙ decoded K M
+
+  room-here : n ≤ places (arity K) (part-of K M)
+  room-here = subst (λ b. n ≤ places (arity K) b) (sym (whole-part (head K) (memory K M)))
+      (subst (λ n. n ≤ places (arity K) (body K (memory K M))) (sym en) (s .room K .within))
+
 pub ready-here : (K : Kind) (M : Memories) (w : List ℕ) (n : ℕ) → Ready K M w → n ≡ count K (memory K M) → Here K M w n
 ready-here K M w n Y en = let e = whole-part (head K) (memory K M) in record {
-  nodes = (λ i. plain K (decode M) (e i) (en i)) ∙ decoded K M;
-  room = subst (λ b. n ≤ places (arity K) b) (sym e) (subst (λ n. n ≤ places (arity K) (body K (memory K M))) (sym en) (Y .store .room K .within));
+  nodes = nodes-here K M (Y .store) n en;
+  room = room-here K M (Y .store) n en;
   right = subst (λ b. Right K (decode M) w b n) (sym e) (subst (λ n. Right K (decode M) w (body K (memory K M)) n) (sym en) (Y .right));
 }
 
@@ -66,10 +74,10 @@ module _ (M : Memories) (s : IsStore M) (judge : ℕ → Store → (ℕ → Verd
   pub check-low : (l : ℕ) → r ≡ Level l → l ≤ 32
   check-low l e = let h = subst (Low (fields M)) e (G .low) in let f = s .few in omega arith
 
-pub checked-here : {K : Kind} {M : Memories} {w : List ℕ} {n : ℕ} {judge : Store → (ℕ → Verdict) → Verdict} {r : Check} → Ready K M w
+pub checked-here : {M : Memories} {n : ℕ} {judge : Store → (ℕ → Verdict) → Verdict} {r : Check} (K : Kind) (s : IsStore M)
     → n ≡ count K (memory K M) → Checks K (part-of K M) n (fields M) judge r → Goes (fields M) (decode M) judge r
-checked-here {K} {M} {w} {n} {judge} {r} Y en C = let H = ready-here K M w n Y en in record {
-  says = λ v. subst (λ S. judge S v ≡ checked r v) (H .nodes) (C .says (decode M) (H .room) (subst (WellFormed (fields M)) (sym (H .nodes)) (Y .store .formed)) v);
+checked-here {M} {n} {judge} {r} K s en C = let e = nodes-here K M s n en in record {
+  says = λ v. subst (λ S. judge S v ≡ checked r v) e (C .says (decode M) (room-here K M s n en) (subst (WellFormed (fields M)) (sym e) (s .formed)) v);
   low = C .low;
 }
 
@@ -83,7 +91,7 @@ module _ (M : Memories) (s : IsStore M) where
   pub beside-here : (K : Kind) (j : ℕ) → j ≡ count (other K) (memory (other K) M) → Beside K (part-of (other K) M) j (decode M)
   beside-here K j e = let L = other K in let q = whole-part (head L) (memory L M) in record {
     read = nodes-are M L ∙ sym (λ i. rows (arity L) (e i) (q i));
-    within = subst (λ b. j ≤ places (arity L) b) (sym q) (subst (λ j. j ≤ places (arity L) (body L (memory L M))) (sym e) (s .room L .within));
+    within = room-here L M s j e;
   }
 
   pub both-here : {judge : Store → (ℕ → Verdict) → Verdict} {r : Check} {n j : ℕ} → n ≡ count rel (M .relations) → j ≡ count set (M .sets)

@@ -15,7 +15,7 @@ use Rattle.nodes.proofs.Rules.{Does, held-within}
 use Rattle.nodes.proofs.SetFields.{mk-set, ifelse-does, set-test-does}
 use Rattle.nodes.proofs.YesNo.{is-zero-does, intersects-does}
 use Rattle.store.specs.Meanings.{set-meaning}
-use Rattle.store.specs.Outcome.{Verdict, gives, runs, of-two}
+use Rattle.store.specs.Outcome.{Verdict, gives, runs, of-one, of-two}
 use Rattle.store.specs.SetCalls.{set-verdict, set-read-declines}
 use Rattle.store.specs.SetChecking.{SetFieldFits, SetReadSafe}
 use Rattle.store.specs.declared.Answer.the-variants.{Handle}
@@ -26,11 +26,16 @@ use Rattle.store.specs.declared.set_reads.SetRead.the-variants.{Get, Com
 use Rattle.store.proofs.Going.{Operand, provided-went, one-went, two-went, less, above, does-as, handle-in}
 
 -- a set's own packets
-den-own : (S : Store) (l a : ℕ) → Held set S l a → Den set l (contains S a) S a
+pub den-own : (S : Store) (l a : ℕ) → Held set S l a → Den set l (contains S a) S a
 den-own S l a A = record { held = A; means = λ p P. (λ x. x, λ x. x) }
 
 -- CALLS THAT MAY ADD SETS
 module _ {k : ℕ} {S : Store} {p : Prog} (F : WellFormed k S) where
+  -- an operation on one set
+  pub set-single : (a : ℕ) (f : ℕ → Prog) (φ : ℕ → Store → ℕ → Type 0) → of-one k set S a (λ l. runs (f l)) ≡ runs p
+      → ((l : ℕ) → l ≤ k → Den set l (contains S a) S a → Does k S (f l) (φ l)) → Does k S p (φ (level-of k set S a))
+  set-single a f φ e D = let t = one-went set F tt a _ e in does-as (t .1) (D (level-of k set S a) (t .0 .low) (den-own S _ a (t .0 .held)))
+
   -- an operation on two sets of one level
   pair : (a b : ℕ) (f : ℕ → Prog) (φ : ℕ → Store → ℕ → Type 0) → of-two k set S a b (λ l. runs (f l)) ≡ runs p
       → ((l : ℕ) → l ≤ k → Den set l (contains S a) S a → Den set l (contains S b) S b → Does k S (f l) (φ l)) → Does k S p (φ (level-of k set S a))

@@ -10,9 +10,13 @@ use Rattle.store.specs.Valid.{store?}
 use Rattle.store.specs.Outcome.{Verdict, runs, provided, Told, concludes}
 use Rattle.store.specs.SetCalls.{set-verdict, set-read-verdict}
 use Rattle.store.specs.RelationCalls.{relation-verdict, relation-read-verdict}
+use Rattle.store.specs.ImageCalls.{image-verdict, filter-verdict, path-verdict}
 use Rattle.store.specs.declared.Refusal.the-variants.{NotStore, OutOfRange}
 use Rattle.store.specs.declared.set_calls.SetCall.{SetCall}
 use Rattle.store.specs.declared.set_reads.SetRead.{SetRead}
+use Rattle.store.specs.declared.image_calls.ImageCall.{ImageCall}
+use Rattle.store.specs.declared.filter_calls.FilterCall.{FilterCall}
+use Rattle.store.specs.declared.path_reads.PathRead.{PathRead}
 use Rattle.store.specs.declared.relation_calls.RelationCall.{RelationCall}
 use Rattle.store.specs.declared.relation_reads.RelationRead.{RelationRead}
 
@@ -22,6 +26,9 @@ pub data Call : Type 0 where
   set-read : SetRead → Call
   relation-call : RelationCall → Call
   relation-read : RelationRead → Call
+  image-call : ImageCall → Call
+  filter-call : FilterCall → Call
+  path-read : PathRead → Call
 
 abbrev pub set-places : Memories → ℕ
 set-places M = places-in set (M .sets)
@@ -45,3 +52,6 @@ step (set-call c) M = on-store (set-verdict c) M
 step (set-read c) M = on-store (set-read-verdict c) M
 step (relation-call c) M = on-store (relation-verdict c) M
 step (relation-read c) M = on-store (relation-read-verdict c) M
+step (image-call c) M = on-store (image-verdict c) M
+step (filter-call c) M = on-store (filter-verdict c) M
+step (path-read c) M = on-store (path-verdict c) M

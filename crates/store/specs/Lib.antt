@@ -4,11 +4,14 @@ pub mod Answers
 pub mod Outcome
 pub mod SetCalls
 pub mod RelationCalls
+pub mod ImageCalls
 pub mod Calls
 pub mod Meanings
+pub mod ImageMeanings
 pub mod Judging
 pub mod Checking
 pub mod SetChecking
 pub mod RelationChecking
+pub mod ImageChecking
 pub mod Finishing
 pub mod Creating

@@ -4,9 +4,12 @@ ghost use Prim.Native.Nat.{_<_};
 ghost use Rattle.store.specs.Answers.{number};
 
 pub mod creation;
+pub mod filter_calls;
 mod finish;
+pub mod image_calls;
 pub mod judge;
 mod operands;
+pub mod path_reads;
 pub mod relation_calls;
 pub mod relation_reads;
 mod room;

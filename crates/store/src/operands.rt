@@ -4,10 +4,10 @@ ghost use mathlib.Core.Bool.{_&&_};
 ghost use Prim.Native.Nat.{ℕ, _^_, _<_, _≤_};
 ghost use lib.ListN.{length};
 ghost use lib.Dec.{ltb};
-ghost use Rattle.nodes.specs.Store.{Kind, rel, arity, Store, nodes};
+ghost use Rattle.nodes.specs.Store.{Kind, set, rel, arity, Store, nodes};
 ghost use Rattle.nodes.specs.WellFormed.{is-held};
-ghost use Rattle.store.specs.Outcome.{Verdict, provided, of-one, of-two, of-four};
-ghost use Rattle.store.specs.Checking.{checked, Low, Checks, AllAt};
+ghost use Rattle.store.specs.Outcome.{Verdict, provided, of-one, of-pair, of-two, of-four, of-path};
+ghost use Rattle.store.specs.Checking.{checked, Low, Checks, ChecksBoth, AllAt};
 ghost use Rattle.store.specs.declared.Refusal.the-variants.{NoChildren, OutOfRange};
 
 // Whether a handle is held among n nodes of c numbers.
@@ -173,6 +173,56 @@ pub(crate) fn four(
         return crate::Check::No(crate::Refusal::OutOfRange);
     }
     crate::Check::Level(l)
+}
+
+// A relation and a set.
+pub(crate) fn pair(
+    relations: &[u32],
+    n: usize,
+    sets: &[u32],
+    m: usize,
+    k: u32,
+    a: u32,
+    p: u32,
+) -> crate::Check
+    ensures { λ r. ⌜ ChecksBoth (now (relations .entry)) n (now (sets .entry)) m k (λ S v. of-pair k S rel a set p v) r ⌝ }
+{
+    if !is_held(4, n, a) {
+        return crate::Check::No(crate::Refusal::NotHeld);
+    }
+    if !is_held(2, m, p) {
+        return crate::Check::No(crate::Refusal::NotHeld);
+    }
+    let l = memory::words::level(relations, 4, k, a);
+    if memory::words::level(sets, 2, k, p) != l {
+        return crate::Check::No(crate::Refusal::LevelsDiffer);
+    }
+    crate::Check::Level(l)
+}
+
+// A set, a relation and a set.
+pub(crate) fn path(
+    relations: &[u32],
+    n: usize,
+    sets: &[u32],
+    m: usize,
+    k: u32,
+    p: u32,
+    a: u32,
+    q: u32,
+) -> crate::Check
+    ensures { λ r. ⌜ ChecksBoth (now (relations .entry)) n (now (sets .entry)) m k (λ S v. of-path k S p a q v) r ⌝ }
+{
+    if !is_held(2, m, q) {
+        return crate::Check::No(crate::Refusal::NotHeld);
+    }
+    let check = pair(relations, n, sets, m, k, a, p);
+    if let crate::Check::Level(l) = check {
+        if memory::words::level(sets, 2, k, q) != l {
+            return crate::Check::No(crate::Refusal::LevelsDiffer);
+        }
+    }
+    check
 }
 
 // 2 to the power l.

@@ -39,7 +39,7 @@ returns c =
     let c12 = c6 .before .before .before .before .before .before in
     let a = c12 .args in
     adding-declined set (memories (a .relations .now) (a .sets .now)) (a .work .now) (c12 .pre) _ (c6 .wide .ensures)
-    (set-adding (a .call)) _ (checked-here (c12 .pre) (c6 .wide .ensures) (c3 .check .ensures)) _ (c .before .check2 .given .1)
+    (set-adding (a .call)) _ (checked-here set (c12 .pre .store) (c6 .wide .ensures) (c3 .check .ensures)) _ (c .before .check2 .given .1)
 
 narrow-requires-2 : tie.Need-narrow-requires-2
 narrow-requires-2 c κs =
@@ -49,7 +49,7 @@ narrow-requires-2 c κs =
     let c15 = c9 .before .before .before .before .before .before in
     let a = c15 .args in
     adding-low set (memories (a .relations .now) (a .sets .now)) (a .work .now) (c15 .pre) _ (c9 .wide .ensures)
-    (set-adding (a .call)) _ (checked-here (c15 .pre) (c9 .wide .ensures) (c6 .check .ensures)) _ (c4 .check3 .given .1)
+    (set-adding (a .call)) _ (checked-here set (c15 .pre .store) (c9 .wide .ensures) (c6 .check .ensures)) _ (c4 .check3 .given .1)
 
 perform-requires : tie.Need-perform-requires
 perform-requires c κs =
@@ -61,7 +61,7 @@ perform-requires c κs =
     let y = c16 .pre in
     set-field-small (y .store .formed) (a .call) (y .store .few)
     (adding-goes set (memories (a .relations .now) (a .sets .now)) (a .work .now) y _ (c10 .wide .ensures)
-    (set-adding (a .call)) _ (checked-here y (c10 .wide .ensures) (c7 .check .ensures)) _ (c5 .check3 .given .1))
+    (set-adding (a .call)) _ (checked-here set (y .store) (c10 .wide .ensures) (c7 .check .ensures)) _ (c5 .check3 .given .1))
 
 finish-requires : tie.Need-finish-requires
 finish-requires c κs =
@@ -74,7 +74,7 @@ finish-requires c κs =
     let c22 = c16 .before .before .before .before .before .before in
     let a = c22 .args in
     let t = adding-within set (memories (a .relations .now) (a .sets .now)) (a .work .now) (c22 .pre) _ (c16 .wide .ensures)
-    (set-adding (a .call)) _ (checked-here (c22 .pre) (c16 .wide .ensures) (c13 .check .ensures)) _ (c11 .check3 .given .1) tt _ _ _ _ _
+    (set-adding (a .call)) _ (checked-here set (c22 .pre .store) (c16 .wide .ensures) (c13 .check .ensures)) _ (c11 .check3 .given .1) tt _ _ _ _ _
     (c7 .narrow .ensures) (c6 .narrow2 .ensures) (c5 .perform .ensures) in (omega arith, t .0, t .1, t .2)
 
 returns-2 : tie.Need-returns-2
@@ -88,7 +88,7 @@ returns-2 c =
     let c25 = c19 .before .before .before .before .before .before in
     let a = c25 .args in
     adding-ran set (memories (a .relations .now) (a .sets .now)) (a .work .now) (c25 .pre) _ (c19 .wide .ensures)
-    (set-adding (a .call)) _ (checked-here (c25 .pre) (c19 .wide .ensures) (c16 .check .ensures)) _ (c14 .check3 .given .1) tt _ _ _ _ _
+    (set-adding (a .call)) _ (checked-here set (c25 .pre .store) (c19 .wide .ensures) (c16 .check .ensures)) _ (c14 .check3 .given .1) tt _ _ _ _ _
     (c10 .narrow .ensures) (c9 .narrow2 .ensures) (c8 .perform .ensures) _ _ (c .before .before .finish .ensures)
 
 pub judged-spec : {M : Type 1} → statement M

@@ -38,7 +38,7 @@ returns c =
     let c11 = c5 .before .before .before .before .before .before in
     let a = c11 .args in
     reading-declined set (memories (a .relations .now) (a .sets .now)) (a .work .now) (c11 .pre) _ (c5 .wide .ensures)
-    (set-reading (a .call)) _ (checked-here (c11 .pre) (c5 .wide .ensures) (c3 .check .ensures)) _ (c .before .check2 .given .1)
+    (set-reading (a .call)) _ (checked-here set (c11 .pre .store) (c5 .wide .ensures) (c3 .check .ensures)) _ (c .before .check2 .given .1)
 
 narrow-requires : tie.Need-narrow-requires
 narrow-requires c κs =
@@ -48,7 +48,7 @@ narrow-requires c κs =
     let c13 = c7 .before .before .before .before .before .before in
     let a = c13 .args in
     let h = reading-low set (memories (a .relations .now) (a .sets .now)) (a .work .now) (c13 .pre) _ (c7 .wide .ensures)
-    (set-reading (a .call)) _ (checked-here (c13 .pre) (c7 .wide .ensures) (c5 .check .ensures)) _ (c3 .check3 .given .1) in
+    (set-reading (a .call)) _ (checked-here set (c13 .pre .store) (c7 .wide .ensures) (c5 .check .ensures)) _ (c3 .check3 .given .1) in
     omega arith
 
 returns-2 : tie.Need-returns-2
@@ -60,7 +60,7 @@ returns-2 c =
     let c17 = c11 .before .before .before .before .before .before in
     let a = c17 .args in
     reading-told set (memories (a .relations .now) (a .sets .now)) (a .work .now) (c17 .pre) _ (c11 .wide .ensures)
-    (set-reading (a .call)) _ (checked-here (c17 .pre) (c11 .wide .ensures) (c9 .check .ensures)) _ (c7 .check3 .given .1) tt _ _
+    (set-reading (a .call)) _ (checked-here set (c17 .pre .store) (c11 .wide .ensures) (c9 .check .ensures)) _ (c7 .check3 .given .1) tt _ _
     (c3 .narrow .ensures) (c .before .before .answer .ensures)
 
 pub judged-spec : {M : Type 1} → statement M

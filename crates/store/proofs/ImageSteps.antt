@@ -1,0 +1,50 @@
+-- The calls between relations and sets as calls that add sets, relations, or nothing: each is safe by its meaning.
+use mathlib.Core.Path.{_≡_, refl}
+use Rattle.nodes.specs.Store.{set, rel}
+use Rattle.store.specs.Calls.{image-call, filter-call, path-read, on-store, step}
+use Rattle.store.specs.ImageCalls.{image-declines, image-program, image-verdict, filter-declines, filter-program, filter-verdict}
+use Rattle.store.specs.ImageCalls.{path-declines, path-answer, path-verdict}
+use Rattle.store.specs.ImageChecking.{PathSafe}
+use Rattle.store.specs.Memory.{Memories}
+use Rattle.store.specs.declared.image_calls.ImageCall.{ImageCall}
+use Rattle.store.specs.declared.filter_calls.FilterCall.{FilterCall}
+use Rattle.store.specs.declared.path_reads.PathRead.{PathRead}
+use Rattle.store.proofs.CallSteps.{Adding, Reading}
+use Rattle.store.proofs.ImageMeant.{image-does, filter-does, path-safe}
+
+pub image-steps : (c : ImageCall) (M : Memories) → step (image-call c) M ≡ on-store (image-verdict c) M
+unfolding step
+image-steps c M = refl
+
+abbrev pub image-adding : (c : ImageCall) → Adding set (image-call c)
+image-adding c = record {
+  judge = λ k S v. image-declines k c S v;
+  program = λ k l. image-program l c;
+  steps = image-steps c;
+  safe = λ k S p F e. image-does F c e .safe;
+}
+
+pub filter-steps : (c : FilterCall) (M : Memories) → step (filter-call c) M ≡ on-store (filter-verdict c) M
+unfolding step
+filter-steps c M = refl
+
+abbrev pub filter-adding : (c : FilterCall) → Adding rel (filter-call c)
+filter-adding c = record {
+  judge = λ k S v. filter-declines k c S v;
+  program = λ k l. filter-program l c;
+  steps = filter-steps c;
+  safe = λ k S p F e. filter-does F c e .safe;
+}
+
+pub path-steps : (c : PathRead) (M : Memories) → step (path-read c) M ≡ on-store (path-verdict c) M
+unfolding step
+path-steps c M = refl
+
+abbrev pub path-reading : (c : PathRead) → Reading (path-read c)
+path-reading c = record {
+  judge = λ k S v. path-declines k c S v;
+  needs = λ S l. PathSafe S l c;
+  answer = λ S l. path-answer S l c;
+  steps = path-steps c;
+  safe = λ k S l F e. path-safe F c l e;
+}

@@ -1,0 +1,30 @@
+-- `check` says how a call on sets goes on: by the check of its operands.
+use mathlib.Core.Path.{_≡_, refl, sym, subst}
+use mathlib.Core.List.{List}
+use Prim.Native.Nat.{ℕ}
+use borrow.Author.Needs.{needs}
+use Rattle.nodes.specs.Store.{set}
+use Rattle.store.specs.Checking.{Checks}
+use Rattle.store.specs.ImageCalls.{filter-declines}
+use Rattle.store.specs.declared.Check.{Check}
+use Rattle.store.specs.declared.filter_calls.FilterCall.{FilterCall}
+use Rattle.store.proofs.filter_calls.check.Statement.{statement}
+use Rattle.store.proofs.filter_calls.check.Tie as tie
+
+of-call : {m : List ℕ} {n k : ℕ} {r : Check} {a b : FilterCall} → a ≡ b → Checks set m n k (λ S v. filter-declines k b S v) r
+    → Checks set m n k (λ S v. filter-declines k a S v) r
+of-call {m} {n} {k} {r} e C = subst (λ c. Checks set m n k (λ S v. filter-declines k c S v) r) (sym e) C
+
+pub check-spec : {M : Type 1} → statement M
+check-spec =
+    tie.close
+    (tie.spec
+    (λ c. search needs)
+    (λ c κs. search needs)
+    (λ c. search needs)
+    (λ c κs. search needs)
+    (λ c. search needs)
+    (λ c κs. search needs)
+    (λ c. of-call (c .before .before .call .given .1) (c .one .ensures set refl))
+    (λ c. of-call (c .before .before .call2 .given .1) (c .one2 .ensures set refl))
+    (λ c. of-call (c .before .before .call3 .given .1) (c .one3 .ensures set refl)))

@@ -1,0 +1,48 @@
+-- `perform` runs the call's program: the operation of `images` does.
+use mathlib.Core.Path.{ap}
+use borrow.Author.Needs.{needs}
+use Rattle.memory.proofs.Steps.{performs-by}
+use Rattle.store.specs.ImageCalls.{image-program}
+use Rattle.store.proofs.image_calls.perform.Statement.{statement}
+use Rattle.store.proofs.image_calls.perform.Tie as tie
+
+returns : tie.Need-returns
+returns c j =
+    performs-by (ap (image-program _) (c .before .before .before .before .before .before .before .before .call .given .1)) (c .before .before .before .before .fwd .ensures j)
+
+returns-2 : tie.Need-returns-2
+returns-2 c j =
+    performs-by (ap (image-program _) (c .before .before .before .before .before .before .before .before .call2 .given .1)) (c .before .before .before .before .bwd .ensures j)
+
+returns-3 : tie.Need-returns-3
+returns-3 c j =
+    performs-by (ap (image-program _) (c .before .before .before .before .before .before .before .before .call3 .given .1)) (c .before .before .before .before .push .ensures j)
+
+returns-4 : tie.Need-returns-4
+returns-4 c j =
+    performs-by (ap (image-program _) (c .before .before .before .before .before .before .before .before .call4 .given .1)) (c .before .before .before .before .pull .ensures j)
+
+pub perform-spec : {M : Type 1} → statement M
+perform-spec =
+    tie.close
+    (tie.spec
+    (λ c. search needs)
+    (λ c κs. search needs)
+    (λ c. search needs)
+    (λ c κs. search needs)
+    (λ c. search needs)
+    (λ c κs. search needs)
+    (λ c. search needs)
+    (λ c κs. search needs)
+    (λ c. search needs)
+    (λ c. search needs)
+    returns
+    (λ c. search needs)
+    (λ c. search needs)
+    returns-2
+    (λ c. search needs)
+    (λ c. search needs)
+    returns-3
+    (λ c. search needs)
+    (λ c. search needs)
+    returns-4)

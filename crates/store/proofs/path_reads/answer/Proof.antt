@@ -1,0 +1,41 @@
+-- `answer` gives the call's answer.
+use mathlib.Core.Path.{_≡_, refl, sym, subst}
+use mathlib.Core.List.{List}
+use Prim.Native.Nat.{ℕ}
+use borrow.Author.Needs.{needs}
+use Rattle.nodes.specs.Store.{set}
+use Rattle.nodes.proofs.ReadOnly.{has-image-read-only, has-path-read-only}
+use Rattle.memory.specs.Arena.{Condition}
+use Rattle.store.specs.Checking.{AnsweredOn}
+use Rattle.store.specs.ImageCalls.{path-answer}
+use Rattle.store.specs.ImageChecking.{PathSafe}
+use Rattle.store.specs.declared.Answer.{Answer}
+use Rattle.store.specs.declared.path_reads.PathRead.{PathRead}
+use Rattle.store.proofs.Reading.{reads-truth}
+use Rattle.store.proofs.path_reads.answer.Statement.{statement}
+use Rattle.store.proofs.path_reads.answer.Tie as tie
+
+of-call : {Q : Condition} {m w : List ℕ} {n : ℕ} (l : ℕ) {r : Answer} {a b : PathRead} → a ≡ b
+    → AnsweredOn Q set m w n (λ S. PathSafe S l b) (λ S. path-answer S l b) r → AnsweredOn Q set m w n (λ S. PathSafe S l a) (λ S. path-answer S l a) r
+of-call {Q} {m} {w} {n} l {r} e A = subst (λ c. AnsweredOn Q set m w n (λ S. PathSafe S l c) (λ S. path-answer S l c) r) (sym e) A
+
+returns : tie.Need-returns
+returns c j =
+    of-call _ (c .before .before .before .before .before .before .call .given .1) (reads-truth (has-image-read-only _ _ _) (λ S s. s) (λ S. refl) (c .before .before .before .has-image .ensures j))
+
+returns-2 : tie.Need-returns-2
+returns-2 c j =
+    of-call _ (c .before .before .before .before .before .before .call2 .given .1) (reads-truth (has-path-read-only _ _ _ _) (λ S s. s) (λ S. refl) (c .before .before .before .has-path .ensures j))
+
+pub answer-spec : {M : Type 1} → statement M
+answer-spec =
+    tie.close
+    (tie.spec
+    (λ c. search needs)
+    (λ c κs. search needs)
+    (λ c. search needs)
+    (λ c κs. search needs)
+    (λ c. search needs)
+    returns
+    (λ c. search needs)
+    returns-2)

@@ -1,0 +1,12 @@
+-- What the code of the calls that add nothing asks, between relations and sets.
+use Prim.Native.Nat.{ℕ}
+use Rattle.nodes.specs.Store.{Store}
+use Rattle.nodes.specs.Images.{has-image, has-path}
+use Rattle.nodes.specs.Safety.{Safe}
+use Rattle.store.specs.declared.path_reads.PathRead.{PathRead}
+use Rattle.store.specs.declared.path_reads.PathRead.the-variants.{HasImage, HasPath}
+
+-- what a call reads is there
+abbrev pub PathSafe : Store → ℕ → PathRead → Type 0
+PathSafe S l (HasImage p a) = Safe (has-image l p a) S
+PathSafe S l (HasPath p a q) = Safe (has-path l p a q) S

@@ -1,0 +1,30 @@
+-- What the calls between relations and sets give, in terms of their operands' packets in the store S before: document 01, "The operations".
+use Prim.Native.Nat.{ℕ}
+use Rattle.nodes.specs.Store.{set, rel, Store}
+use Rattle.nodes.specs.Packets.{contains, relates}
+use Rattle.nodes.specs.WellFormed.{level-of}
+use Rattle.nodes.specs.Meaning.{Den, Relates, Some, Filter, Range, Domain, Image, Preimage}
+use Rattle.store.specs.declared.image_calls.ImageCall.{ImageCall}
+use Rattle.store.specs.declared.image_calls.ImageCall.the-variants.{Fwd, Bwd, Push, Pull}
+use Rattle.store.specs.declared.filter_calls.FilterCall.{FilterCall}
+use Rattle.store.specs.declared.filter_calls.FilterCall.the-variants.{Diagonal, Ifwd, Ibwd}
+use Rattle.store.specs.declared.path_reads.PathRead.{PathRead}
+use Rattle.store.specs.declared.path_reads.PathRead.the-variants.{HasImage, HasPath}
+
+-- 01: "`fwd` is the range, `bwd` the domain, `push` the image, `pull` the packets with some output in the set"
+unfoldable pub image-meaning : ℕ → ImageCall → Store → Store → ℕ → Type 0
+image-meaning k (Fwd a) S = (let l = level-of k rel S a in Den set l (Range l (relates S a)))
+image-meaning k (Bwd a) S = (let l = level-of k rel S a in Den set l (Domain l (relates S a)))
+image-meaning k (Push p a) S = (let l = level-of k rel S a in Den set l (Image l (contains S p) (relates S a)))
+image-meaning k (Pull a p) S = (let l = level-of k rel S a in Den set l (Preimage l (relates S a) (contains S p)))
+
+-- 01: "`diagonal` the filter, `ifwd` everything into the set, `ibwd` its flip"
+unfoldable pub filter-meaning : ℕ → FilterCall → Store → Store → ℕ → Type 0
+filter-meaning k (Diagonal p) S = Relates (level-of k set S p) (Filter (contains S p))
+filter-meaning k (Ifwd p) S = Relates (level-of k set S p) (λ x y. contains S p y)
+filter-meaning k (Ibwd p) S = Relates (level-of k set S p) (λ x y. contains S p x)
+
+-- the answers: whether a relation leads from a packet of a set, to one of another
+unfoldable pub path-holds : ℕ → PathRead → Store → Type 0
+path-holds k (HasImage p a) S = (let l = level-of k rel S a in Some l (λ x. Some l (λ y. contains S p x × relates S a x y)))
+path-holds k (HasPath p a q) S = (let l = level-of k rel S a in Some l (λ x. Some l (λ y. contains S p x × relates S a x y × contains S q y)))

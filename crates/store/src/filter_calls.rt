@@ -1,0 +1,99 @@
+// The calls that read sets and may add relations.
+ghost use mathlib.Core.Path.{_≡_};
+ghost use Prim.Native.Nat.{ℕ};
+ghost use lib.ListN.{length, replicate};
+ghost use Rattle.nodes.specs.Store.{set, rel};
+ghost use Rattle.memory.specs.Arena.{PerformsOn, Beside};
+ghost use Rattle.store.specs.Memory.{memories};
+ghost use Rattle.store.specs.Outcome.{told};
+ghost use Rattle.store.specs.Calls.{filter-call, step};
+ghost use Rattle.store.specs.ImageCalls.{filter-declines, filter-program};
+ghost use Rattle.store.specs.Checking.{Checks, Ready};
+
+// A call with its argument, a set, after spp.rs.
+pub enum FilterCall {
+    Diagonal(u32),
+    Ifwd(u32),
+    Ibwd(u32),
+}
+
+// Whether a call may run on the first m sets.
+fn check(sets: &[u32], m: usize, k: u32, call: FilterCall) -> crate::Check
+    ensures { λ r. ⌜ Checks set (now (sets .entry)) m k (λ S v. filter-declines k call S v) r ⌝ }
+{
+    match call {
+        FilterCall::Diagonal(p) => crate::operands::one(sets, 2, m, k, p),
+        FilterCall::Ifwd(p) => crate::operands::one(sets, 2, m, k, p),
+        FilterCall::Ibwd(p) => crate::operands::one(sets, 2, m, k, p),
+    }
+}
+
+// Runs a call whose operand is of this level.
+fn perform(
+    sets: &[u32],
+    relations: &mut [u32],
+    work: &mut [u32],
+    s: memory::Arena,
+    level: u8,
+    call: FilterCall,
+) -> memory::Arena
+    ensures { λ r. ⌜ ((j : ℕ) → PerformsOn (Beside rel (now (sets .entry)) j) rel (filter-program level call) s
+        (now (relations .entry)) (now (relations .exit)) (now (work .entry)) (now (work .exit)) r) ⌝ }
+{
+    match call {
+        FilterCall::Diagonal(p) => images::filters::diagonal(sets, relations, work, s, level, p),
+        FilterCall::Ifwd(p) => images::filters::ifwd(sets, relations, work, s, level, p),
+        FilterCall::Ibwd(p) => images::filters::ibwd(sets, relations, work, s, level, p),
+    }
+}
+
+// Checks a call on a store, and runs it.
+fn judged(relations: &mut [u32], sets: &[u32], work: &mut [u32], call: FilterCall) -> crate::Answer
+    requires { ⌜ Ready rel (memories (now relations) (now sets)) (now work) ⌝ }
+    ensures { λ r. ⌜ told r (memories (now (relations .exit)) (now (sets .entry)))
+        ≡ step (filter-call call) (memories (now (relations .entry)) (now (sets .entry))) ⌝ }
+{
+    let k = relations[0];
+    let n = memory::wide(relations[1]);
+    let m = memory::wide(sets[0]);
+    let check = check(&sets[1..], m, k, call);
+    match check {
+        crate::Check::No(r) => crate::Answer::Declined(r),
+        crate::Check::Level(l) => {
+            let s = memory::Arena {
+                ok: true,
+                n: n,
+                h: 0,
+            };
+            let r = perform(
+                &sets[1..],
+                &mut relations[2..],
+                work,
+                s,
+                crate::narrow(l),
+                call,
+            );
+            crate::finish::finish(relations, 2, 4, n, r)
+        }
+    }
+}
+
+// A call on any numbers in both memories.
+pub fn filter_call(
+    relations: &mut [u32],
+    sets: &[u32],
+    work: &mut [u32],
+    call: FilterCall,
+) -> crate::Answer
+    ensures { λ r. ⌜ (told r (memories (now (relations .exit)) (now (sets .entry)))
+        ≡ step (filter-call call) (memories (now (relations .entry)) (now (sets .entry))))
+        × (now (work .exit) ≡ replicate (length (now (work .entry))) 0) ⌝ }
+{
+    if !crate::judge::is_store(relations, sets, work, false) {
+        nodes::clear(work);
+        return crate::Answer::Declined(crate::Refusal::NotStore);
+    }
+    let r = judged(relations, sets, work, call);
+    nodes::clear(work);
+    r
+}
