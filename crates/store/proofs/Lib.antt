@@ -20,3 +20,4 @@ pub mod RelationSteps
 pub mod Creating
 pub mod Filling
 pub mod CallMeans
+pub mod ReadMeans

@@ -6,6 +6,7 @@ pub mod SetCalls
 pub mod RelationCalls
 pub mod Calls
 pub mod Meanings
+pub mod ReadMeanings
 pub mod Judging
 pub mod Checking
 pub mod SetChecking
