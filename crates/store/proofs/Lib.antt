@@ -21,3 +21,7 @@ pub mod Creating
 pub mod Filling
 pub mod CallMeans
 pub mod ReadMeans
+pub mod Matching
+pub mod OneCall
+pub mod NewMatches
+pub mod Lists

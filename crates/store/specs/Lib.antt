@@ -7,6 +7,7 @@ pub mod RelationCalls
 pub mod Calls
 pub mod Meanings
 pub mod ReadMeanings
+pub mod Lists
 pub mod Judging
 pub mod Checking
 pub mod SetChecking
