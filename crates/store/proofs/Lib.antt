@@ -25,3 +25,4 @@ pub mod Matching
 pub mod OneCall
 pub mod NewMatches
 pub mod Lists
+pub mod WrongLists
