@@ -24,5 +24,6 @@ pub mod ReadMeans
 pub mod Matching
 pub mod OneCall
 pub mod NewMatches
+pub mod InTurn
 pub mod Lists
 pub mod WrongLists

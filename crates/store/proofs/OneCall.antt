@@ -18,7 +18,7 @@ use Rattle.nodes.proofs.Extends.{ext-refl}
 use Rattle.nodes.proofs.New.{new-does}
 use Rattle.nodes.proofs.Settle.{run-ext}
 use Rattle.store.specs.Calls.{Call, new-store, set-call, set-read, relation-call, relation-read, set-places, rel-places, on-store, heads?, step}
-use Rattle.store.specs.Lists.{Plain, plain-store, on-lists, plain-step, Refused, NewRefused, Matches, Alike, Grown, CallRight}
+use Rattle.store.specs.Lists.{Plain, plain-store, on-lists, plain-step, Refused, Matches, Alike, Grown, CallRight}
 use Rattle.store.specs.Memory.{Memories, memory, head, fields, decode, encode}
 use Rattle.store.specs.Outcome.{Verdict, declines, gives, runs, provided, told, concludes}
 use Rattle.store.specs.RelationCalls.{relation-verdict, relation-read-verdict}
@@ -122,36 +122,39 @@ module _ {M₀ M : Memories} {P : Plain} (A : Matches M₀ M P) where
       subst (λ t. Alike M₀ t (on-lists m n v P)) (sym e)
       (concludes-alike (P .width) (P .lists) (v (P .width) (P .lists)) (λ p q. (matches-few A, s .formed _ _ p (matches-formed A) q)))
 
-  heads-there : heads? M ≡ true
-  heads-there = rw (le-leb _ _ (A .store .room rel .headed), le-leb _ _ (A .store .room set .headed))
+  heads-yes : heads? M ≡ true
+  heads-yes = rw (le-leb _ _ (A .store .room rel .headed), le-leb _ _ (A .store .room set .headed))
 
   new-alike : (k : ℕ) → Alike M₀ (step (new-store k) M) (plain-step m n (new-store k) P)
   unfolding step plain-step
   new-alike k =
       let v = provided OutOfRange (leb k 32) (runs (new k)) in
       let e : step (new-store k) M ≡ concludes m n v blank M (λ S. encode k S M)
-      = λ i. concludes (A .places set i) (A .places rel i) (provided OutOfRange (leb k 32) (provided-yes NotStore (heads? M) (runs (new k)) heads-there i))
+      = λ i. concludes (A .places set i) (A .places rel i) (provided OutOfRange (leb k 32) (provided-yes NotStore (heads? M) (runs (new k)) heads-yes i))
       blank M (λ S. encode k S M) in
       subst (λ t. Alike M₀ t (plain-step m n (new-store k) P)) (sym e) (concludes-alike k blank v (λ p q. let t = provided-went _ _ tt q in
       (leb→le k 32 (subst T (sym (t .0)) tt), subst (λ p. WellFormed k (run p blank .store)) (ap program-in (t .1)) (new-does k .after .formed))))
 
-  call-alike : (c : Call) → Alike M₀ (step c M) (plain-step m n c P)
-  unfolding step plain-step
-  call-alike (new-store k) = new-alike k
-  call-alike (set-call c) = verdict-alike (set-verdict c) (set-sound c)
-  call-alike (set-read c) = verdict-alike (set-read-verdict c) (set-read-sound c)
-  call-alike (relation-call c) = verdict-alike (relation-verdict c) (relation-sound c)
-  call-alike (relation-read c) = verdict-alike (relation-read-verdict c) (relation-read-sound c)
+  -- a call whose verdict on a store is v
+  pub verdict-right : (c : Call) (v : ℕ → Store → Verdict) → Sound v → step c M ≡ on-store v M → plain-step m n c P ≡ on-lists m n v P → CallRight M₀ M P c
+  verdict-right c v s e f = record {
+    alike = subst (λ t. Alike M₀ t (plain-step m n c P)) (sym e) (subst (Alike M₀ (on-store v M)) (sym f) (verdict-alike v s));
+    grown = λ r. subst (λ u. Grown P (u .state)) (sym f) (verdict-grown m n v P);
+  }
 
-  call-grown : (c : Call) → NewRefused c M → Grown P (plain-step m n c P .state)
+  new-right : (k : ℕ) → CallRight M₀ M P (new-store k)
   unfolding plain-step
-  call-grown (new-store k) r = subst (Grown P) (sym (refused-stays m n (provided OutOfRange (leb k 32) (runs (new k))) blank P (plain-store k)
-      (subst Refused (call-alike (new-store k) .answer) (r k refl)))) (grown-none P)
-  call-grown (set-call c) r = verdict-grown m n (set-verdict c) P
-  call-grown (set-read c) r = verdict-grown m n (set-read-verdict c) P
-  call-grown (relation-call c) r = verdict-grown m n (relation-verdict c) P
-  call-grown (relation-read c) r = verdict-grown m n (relation-read-verdict c) P
+  new-right k = record {
+    alike = new-alike k;
+    grown = λ r. subst (Grown P) (sym (refused-stays m n (provided OutOfRange (leb k 32) (runs (new k))) blank P (plain-store k)
+        (subst Refused (new-alike k .answer) (r k refl)))) (grown-none P);
+  }
 
   -- THE LAW FOR ONE CALL
   pub call-right : (c : Call) → CallRight M₀ M P c
-  call-right c = record { alike = call-alike c; grown = call-grown c }
+  unfolding step plain-step
+  call-right (new-store k) = new-right k
+  call-right (set-call c) = verdict-right (set-call c) (set-verdict c) (set-sound c) refl refl
+  call-right (set-read c) = verdict-right (set-read c) (set-read-verdict c) (set-read-sound c) refl refl
+  call-right (relation-call c) = verdict-right (relation-call c) (relation-verdict c) (relation-sound c) refl refl
+  call-right (relation-read c) = verdict-right (relation-read c) (relation-read-verdict c) (relation-read-sound c) refl refl

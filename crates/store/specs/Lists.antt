@@ -44,22 +44,35 @@ plain-step m n (relation-read c) P = on-lists m n (relation-read-verdict c) P
 abbrev pub begun : ℕ → Plain
 begun k = plain-store k (run (new k) blank .store)
 
--- LISTS. 01: "Each is lent the same two slices as the call before left them": the answers in order, and what the last call leaves
-pub record Listed (X : Type 0) : Type 0 where
-  pub answers : List Answer
+-- LISTS of calls of any type C on any state X: the answers in order, and what the last call leaves;
+-- `answer` and `next` say what a call answers and what it leaves. 01: "Each is lent the same two slices as the call before left them"
+pub record Listed (A X : Type 0) : Type 0 where
+  pub answers : List A
   pub state : X
 
-unfoldable pub in-turn : {X : Type 0} → (Call → X → Told X) → List Call → X → Listed X
-in-turn f [] x = record { answers = []; state = x }
-in-turn f (c ∷ cs) x = (let t = f c x in let r = in-turn f cs (t .state) in record { answers = t .answer ∷ r .answers; state = r .state })
+unfoldable pub in-turn : {C A X : Type 0} → (C → X → A) → (C → X → X) → List C → X → Listed A X
+in-turn answer next [] x = record { answers = []; state = x }
+in-turn answer next (c ∷ cs) x = (let r = in-turn answer next cs (next c x) in record { answers = answer c x ∷ r .answers; state = r .state })
 
-abbrev pub steps : List Call → Memories → Listed Memories
-steps cs M = in-turn step cs M
+-- every call of the list has Q on the state that it is made on
+unfoldable pub each-call : {C X : Type 0} → (C → X → X) → (C → X → Type 0) → List C → X → Type 0
+each-call next Q [] x = Unit {0}
+each-call next Q (c ∷ cs) x = Q c x × each-call next Q cs (next c x)
 
-abbrev pub plain-steps : ℕ → ℕ → List Call → Plain → Listed Plain
-plain-steps m n cs P = in-turn (plain-step m n) cs P
+-- on the memories, and on the plain store
+abbrev pub answer-of : {X : Type 0} → (Call → X → Told X) → Call → X → Answer
+answer-of f c x = f c x .answer
 
--- 01: "any `new` that is refused": the call c on the memories M, and every call of a list that begins there
+abbrev pub left-by : {X : Type 0} → (Call → X → Told X) → Call → X → X
+left-by f c x = f c x .state
+
+abbrev pub steps : List Call → Memories → Listed Answer Memories
+steps cs M = in-turn (answer-of step) (left-by step) cs M
+
+abbrev pub plain-steps : ℕ → ℕ → List Call → Plain → Listed Answer Plain
+plain-steps m n cs P = in-turn (answer-of (plain-step m n)) (left-by (plain-step m n)) cs P
+
+-- 01, demand 3's list: "any `new` that is refused"
 pub record Refused (a : Answer) : Type 0 where
   pub why : Refusal
   pub is : a ≡ Declined why
@@ -67,9 +80,8 @@ pub record Refused (a : Answer) : Type 0 where
 abbrev pub NewRefused : Call → Memories → Type 0
 NewRefused c M = (k : ℕ) → c ≡ new-store k → Refused (step c M .answer)
 
-unfoldable pub NewsRefused : List Call → Memories → Type 0
-NewsRefused [] M = Unit {0}
-NewsRefused (c ∷ cs) M = NewRefused c M × NewsRefused cs (step c M .state)
+abbrev pub NewsRefused : List Call → Memories → Type 0
+NewsRefused cs M = each-call (left-by step) NewRefused cs M
 
 -- WHAT IS CLAIMED. M, slices as long as M₀, are a store and hold the plain store P; all else in them is as in M₀:
 -- 01, "numbers beyond the last place are never touched"
@@ -105,12 +117,13 @@ pub record Lasts (S S′ : Store) : Type 0 where
 
 -- a list of calls after `new k` on the memories M₀, and the same calls on the plain store
 module _ (k : ℕ) (M₀ : Memories) (cs : List Call) where
-  abbrev pub on-memories : Listed Memories
+  abbrev pub on-memories : Listed Answer Memories
   on-memories = steps cs (step (new-store k) M₀ .state)
 
-  abbrev pub on-plain : Listed Plain
+  abbrev pub on-plain : Listed Answer Plain
   on-plain = plain-steps (set-places M₀) (rel-places M₀) cs (begun k)
 
+-- what is claimed of it, where that `new` was accepted
 pub record ListRight (k : ℕ) (M₀ : Memories) (cs : List Call) : Type 0 where
   pub new-answer : step (new-store k) M₀ .answer ≡ Handle (run (new k) blank .value)
   -- the same answers, one by one; the memories are a store with the same lists, and untouched where no place is
