@@ -44,7 +44,7 @@ Runs (declines r) = ⊥
 Runs (gives a) = ⊥
 Runs (runs p) = Unit {0}
 
-not-gives : {p : Prog} {a : Answer} → runs p ≡ gives a → ⊥
+pub not-gives : {p : Prog} {a : Answer} → runs p ≡ gives a → ⊥
 not-gives e = subst Runs e tt
 
 -- a verdict that runs a program, where the answer is a handle: the meaning of the program's result

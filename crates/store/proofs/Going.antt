@@ -5,6 +5,8 @@ use Prim.Native.Nat.{ℕ, zero, suc, _<_, _≤_}
 use native.Mathlib.Omega.{arith}
 use lib.Dec.{ltb, eqb, T, ltb→lt}
 use Rattle.nodes.specs.Store.{Kind, set, rel, Store}
+use Rattle.nodes.specs.Meaning.{Den}
+use Rattle.nodes.specs.Packets.{walk}
 use Rattle.nodes.specs.Programs.{Prog, panic}
 use Rattle.nodes.specs.WellFormed.{Held, WellFormed, is-held, level-of}
 use Rattle.nodes.proofs.Bools.{eqb-iff}
@@ -79,6 +81,10 @@ path-went {k} {S} F g p a q v e =
     let t = pair-went rel set F g a p _ (s .1) in
     let u = provided-went _ _ g (t .2) in
     (t .1, t .0, subst (λ l. Operand k set S l q) (eqb-iff _ _ .0 (subst T (sym (u .0)) tt)) (record { low = h .0; held = h .1 }), u .1)
+
+-- a handle's own walks
+pub own : (K : Kind) (S : Store) (l a : ℕ) → Held K S l a → Den K l (λ ds. walk K S a ds ≡ 1) S a
+own K S l a A = record { held = A; means = λ ds D. (λ x. x, λ x. x) }
 
 pub less : (a b : ℕ) → ltb a b ≡ true → a < b
 less a b e = ltb→lt a b (subst T (sym e) tt)

@@ -21,8 +21,8 @@ use Rattle.store.specs.declared.filter_calls.FilterCall.{FilterCall}
 use Rattle.store.specs.declared.filter_calls.FilterCall.the-variants.{Diagonal, Ifwd, Ibwd}
 use Rattle.store.specs.declared.path_reads.PathRead.{PathRead}
 use Rattle.store.specs.declared.path_reads.PathRead.the-variants.{HasImage, HasPath}
-use Rattle.store.proofs.Going.{Operand, pair-went, path-went, does-as, handle-in}
-use Rattle.store.proofs.SetMeant.{den-own, set-single}
+use Rattle.store.proofs.Going.{Operand, own, pair-went, path-went, does-as, handle-in}
+use Rattle.store.proofs.SetMeant.{set-single}
 use Rattle.store.proofs.RelationMeant.{single}
 
 -- CALLS THAT MAY ADD SETS
@@ -32,7 +32,7 @@ module _ {k : ℕ} {S : Store} {p : Prog} (F : WellFormed k S) where
       → ((l : ℕ) → l ≤ k → Relates l (relates S a) S a → Den set l (contains S q) S q → Does k S (f l) (φ l)) → Does k S p (φ (level-of k rel S a))
   both a q f φ e D =
       let t = pair-went rel set F tt a q _ e in
-      does-as (t .2) (D (level-of k rel S a) (t .0 .low) (relates-own S _ a (t .0 .held)) (den-own S _ q (t .1 .held)))
+      does-as (t .2) (D (level-of k rel S a) (t .0 .low) (relates-own S _ a (t .0 .held)) (own set S _ q (t .1 .held)))
 
   pub image-does : (c : ImageCall) → image-verdict c k S ≡ runs p → Does k S p (image-meaning k c S)
   unfolding image-meaning
@@ -57,11 +57,11 @@ module _ {k : ℕ} {S : Store} (F : WellFormed k S) where
       let q = ap handle-in (t .2) in
       let A = subst (λ l. Operand k rel S l a) q (t .0) in
       let P = subst (λ l. Operand k set S l p) q (t .1) in
-      has-image-does l p a F (A .low) (den-own S l p (P .held)) (relates-own S l a (A .held)) .safe
+      has-image-does l p a F (A .low) (own set S l p (P .held)) (relates-own S l a (A .held)) .safe
   path-safe (HasPath p a q) l e =
       let t = path-went F tt p a q _ (e (λ l. gives (Handle l))) in
       let x = ap handle-in (t .3) in
       let P = subst (λ l. Operand k set S l p) x (t .0) in
       let A = subst (λ l. Operand k rel S l a) x (t .1) in
       let Q = subst (λ l. Operand k set S l q) x (t .2) in
-      has-path-does l p a q F (A .low) (den-own S l p (P .held)) (relates-own S l a (A .held)) (den-own S l q (Q .held)) .safe
+      has-path-does l p a q F (A .low) (own set S l p (P .held)) (relates-own S l a (A .held)) (own set S l q (Q .held)) .safe

@@ -23,3 +23,11 @@ pub mod ImageSteps
 pub mod Creating
 pub mod Filling
 pub mod CallMeans
+pub mod ReadMeans
+pub mod ImageMeans
+pub mod Matching
+pub mod OneCall
+pub mod NewMatches
+pub mod InTurn
+pub mod Lists
+pub mod WrongLists

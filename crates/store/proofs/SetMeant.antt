@@ -23,32 +23,28 @@ use Rattle.store.specs.declared.set_calls.SetCall.{SetCall}
 use Rattle.store.specs.declared.set_calls.SetCall.the-variants.{Mk, Zero, One, Union, Intersect, Xor, Difference, Test, Ifelse}
 use Rattle.store.specs.declared.set_reads.SetRead.{SetRead}
 use Rattle.store.specs.declared.set_reads.SetRead.the-variants.{Get, Complement, IsZero, Intersects}
-use Rattle.store.proofs.Going.{Operand, provided-went, one-went, two-went, less, above, does-as, handle-in}
-
--- a set's own packets
-pub den-own : (S : Store) (l a : ℕ) → Held set S l a → Den set l (contains S a) S a
-den-own S l a A = record { held = A; means = λ p P. (λ x. x, λ x. x) }
+use Rattle.store.proofs.Going.{Operand, own, provided-went, one-went, two-went, less, above, does-as, handle-in}
 
 -- CALLS THAT MAY ADD SETS
 module _ {k : ℕ} {S : Store} {p : Prog} (F : WellFormed k S) where
   -- an operation on one set
   pub set-single : (a : ℕ) (f : ℕ → Prog) (φ : ℕ → Store → ℕ → Type 0) → of-one k set S a (λ l. runs (f l)) ≡ runs p
       → ((l : ℕ) → l ≤ k → Den set l (contains S a) S a → Does k S (f l) (φ l)) → Does k S p (φ (level-of k set S a))
-  set-single a f φ e D = let t = one-went set F tt a _ e in does-as (t .1) (D (level-of k set S a) (t .0 .low) (den-own S _ a (t .0 .held)))
+  set-single a f φ e D = let t = one-went set F tt a _ e in does-as (t .1) (D (level-of k set S a) (t .0 .low) (own set S _ a (t .0 .held)))
 
   -- an operation on two sets of one level
   pair : (a b : ℕ) (f : ℕ → Prog) (φ : ℕ → Store → ℕ → Type 0) → of-two k set S a b (λ l. runs (f l)) ≡ runs p
       → ((l : ℕ) → l ≤ k → Den set l (contains S a) S a → Den set l (contains S b) S b → Does k S (f l) (φ l)) → Does k S p (φ (level-of k set S a))
   pair a b f φ e D =
       let t = two-went set F tt a b _ e in
-      does-as (t .2) (D (level-of k set S a) (t .0 .low) (den-own S _ a (t .0 .held)) (den-own S _ b (t .1 .held)))
+      does-as (t .2) (D (level-of k set S a) (t .0 .low) (own set S _ a (t .0 .held)) (own set S _ b (t .1 .held)))
 
   pub set-does : (c : SetCall) → set-verdict c k S ≡ runs p → Does k S p (set-meaning k c S)
   unfolding set-meaning
   set-does (Mk a b) e =
       let t = two-went set F tt a b _ e in
       let q = provided-went _ _ tt (t .2) in
-      does-as (q .1) (mk-set (level-of k set S a) a b _ F (less _ _ (q .0)) (den-own S _ a (t .0 .held)) (den-own S _ b (t .1 .held))
+      does-as (q .1) (mk-set (level-of k set S a) a b _ F (less _ _ (q .0)) (own set S _ a (t .0 .held)) (own set S _ b (t .1 .held))
       (λ p. (λ x. x, λ x. x)) (λ p. (λ x. x, λ x. x)))
   set-does Zero e = does-as e (zero-does set k (omega arith) F (λ ds D x. x))
   set-does One e = does-as e (full-does set k (omega arith) F (λ ds D. tt))
@@ -62,7 +58,7 @@ module _ {k : ℕ} {S : Store} {p : Prog} (F : WellFormed k S) where
   set-does (Ifelse v t e) d =
       let q = two-went set F tt t e _ (provided-went _ _ tt d .1) in
       let r = provided-went _ _ tt (q .2) in
-      does-as (r .1) (ifelse-does (level-of k set S t) v t e F (q .0 .low) (less _ _ (r .0)) (den-own S _ t (q .0 .held)) (den-own S _ e (q .1 .held)))
+      does-as (r .1) (ifelse-does (level-of k set S t) v t e F (q .0 .low) (less _ _ (r .0)) (own set S _ t (q .0 .held)) (own set S _ e (q .1 .held)))
 
   -- the field that it names is below 256
   pub set-field-small : (c : SetCall) → k ≤ 32 → set-verdict c k S ≡ runs p → SetFieldFits c
@@ -87,10 +83,10 @@ module _ {k : ℕ} {S : Store} (F : WellFormed k S) where
   set-read-safe (Complement a) l e = tt
   set-read-safe (IsZero a) l e =
       let t = one-went set F tt a _ (e (λ l. gives (Handle l))) in
-      is-zero-does set l a F (den-own S l a (subst (λ l. Held set S l a) (ap handle-in (t .1)) (t .0 .held))) .safe
+      is-zero-does set l a F (own set S l a (subst (λ l. Held set S l a) (ap handle-in (t .1)) (t .0 .held))) .safe
   set-read-safe (Intersects a b) l e =
       let t = two-went set F tt a b _ (e (λ l. gives (Handle l))) in
       let q = ap handle-in (t .2) in
       let A = subst (λ l. Operand k set S l a) q (t .0) in
       let B = subst (λ l. Operand k set S l b) q (t .1) in
-      intersects-does l a b F (A .low) (den-own S l a (A .held)) (den-own S l b (B .held)) .safe
+      intersects-does l a b F (A .low) (own set S l a (A .held)) (own set S l b (B .held)) .safe

@@ -4,6 +4,8 @@ use Rattle.nodes.specs.Store.{set, rel, Store}
 use Rattle.nodes.specs.Packets.{contains, relates}
 use Rattle.nodes.specs.WellFormed.{level-of}
 use Rattle.nodes.specs.Meaning.{Den, Relates, Some, Filter, Range, Domain, Image, Preimage}
+use Rattle.store.specs.ReadMeanings.{yes-where}
+use Rattle.store.specs.declared.Answer.{Answer}
 use Rattle.store.specs.declared.image_calls.ImageCall.{ImageCall}
 use Rattle.store.specs.declared.image_calls.ImageCall.the-variants.{Fwd, Bwd, Push, Pull}
 use Rattle.store.specs.declared.filter_calls.FilterCall.{FilterCall}
@@ -24,7 +26,8 @@ filter-meaning k (Diagonal p) S = Relates (level-of k set S p) (Filter (contains
 filter-meaning k (Ifwd p) S = Relates (level-of k set S p) (λ x y. contains S p y)
 filter-meaning k (Ibwd p) S = Relates (level-of k set S p) (λ x y. contains S p x)
 
--- the answers: whether a relation leads from a packet of a set, to one of another
-unfoldable pub path-holds : ℕ → PathRead → Store → Type 0
-path-holds k (HasImage p a) S = (let l = level-of k rel S a in Some l (λ x. Some l (λ y. contains S p x × relates S a x y)))
-path-holds k (HasPath p a q) S = (let l = level-of k rel S a in Some l (λ x. Some l (λ y. contains S p x × relates S a x y × contains S q y)))
+-- whether a relation leads from a packet of a set, and to one of another
+unfoldable pub path-meaning : ℕ → PathRead → Store → Answer → Type 0
+path-meaning k (HasImage p a) S = (let l = level-of k rel S a in yes-where (Some l (λ x. Some l (λ y. contains S p x × relates S a x y))))
+path-meaning k (HasPath p a q) S =
+    (let l = level-of k rel S a in yes-where (Some l (λ x. Some l (λ y. contains S p x × relates S a x y × contains S q y))))

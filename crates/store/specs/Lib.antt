@@ -7,7 +7,9 @@ pub mod RelationCalls
 pub mod ImageCalls
 pub mod Calls
 pub mod Meanings
+pub mod ReadMeanings
 pub mod ImageMeanings
+pub mod Lists
 pub mod Judging
 pub mod Checking
 pub mod SetChecking

@@ -8,15 +8,21 @@ use Rattle.store.proofs.filter_calls.perform.Tie as tie
 
 returns : tie.Need-returns
 returns c j =
-    performs-by (ap (filter-program _) (c .before .before .before .before .before .before .before .before .call .given .1)) (c .before .before .before .before .diagonal .ensures j)
+    let c4 = c .before .before .before .before in
+    let c8 = c4 .before .before .before .before in
+    performs-by (ap (filter-program _) (c8 .call .given .1)) (c4 .diagonal .ensures j)
 
 returns-2 : tie.Need-returns-2
 returns-2 c j =
-    performs-by (ap (filter-program _) (c .before .before .before .before .before .before .before .before .call2 .given .1)) (c .before .before .before .before .ifwd .ensures j)
+    let c4 = c .before .before .before .before in
+    let c8 = c4 .before .before .before .before in
+    performs-by (ap (filter-program _) (c8 .call2 .given .1)) (c4 .ifwd .ensures j)
 
 returns-3 : tie.Need-returns-3
 returns-3 c j =
-    performs-by (ap (filter-program _) (c .before .before .before .before .before .before .before .before .call3 .given .1)) (c .before .before .before .before .ibwd .ensures j)
+    let c4 = c .before .before .before .before in
+    let c8 = c4 .before .before .before .before in
+    performs-by (ap (filter-program _) (c8 .call3 .given .1)) (c4 .ibwd .ensures j)
 
 pub perform-spec : {M : Type 1} → statement M
 perform-spec =

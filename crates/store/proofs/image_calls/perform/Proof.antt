@@ -8,19 +8,27 @@ use Rattle.store.proofs.image_calls.perform.Tie as tie
 
 returns : tie.Need-returns
 returns c j =
-    performs-by (ap (image-program _) (c .before .before .before .before .before .before .before .before .call .given .1)) (c .before .before .before .before .fwd .ensures j)
+    let c4 = c .before .before .before .before in
+    let c8 = c4 .before .before .before .before in
+    performs-by (ap (image-program _) (c8 .call .given .1)) (c4 .fwd .ensures j)
 
 returns-2 : tie.Need-returns-2
 returns-2 c j =
-    performs-by (ap (image-program _) (c .before .before .before .before .before .before .before .before .call2 .given .1)) (c .before .before .before .before .bwd .ensures j)
+    let c4 = c .before .before .before .before in
+    let c8 = c4 .before .before .before .before in
+    performs-by (ap (image-program _) (c8 .call2 .given .1)) (c4 .bwd .ensures j)
 
 returns-3 : tie.Need-returns-3
 returns-3 c j =
-    performs-by (ap (image-program _) (c .before .before .before .before .before .before .before .before .call3 .given .1)) (c .before .before .before .before .push .ensures j)
+    let c4 = c .before .before .before .before in
+    let c8 = c4 .before .before .before .before in
+    performs-by (ap (image-program _) (c8 .call3 .given .1)) (c4 .push .ensures j)
 
 returns-4 : tie.Need-returns-4
 returns-4 c j =
-    performs-by (ap (image-program _) (c .before .before .before .before .before .before .before .before .call4 .given .1)) (c .before .before .before .before .pull .ensures j)
+    let c4 = c .before .before .before .before in
+    let c8 = c4 .before .before .before .before in
+    performs-by (ap (image-program _) (c8 .call4 .given .1)) (c4 .pull .ensures j)
 
 pub perform-spec : {M : Type 1} → statement M
 perform-spec =
