@@ -27,6 +27,8 @@ pub mod ReadMeans
 pub mod ImageMeans
 pub mod Matching
 pub mod OneCall
+pub mod AnyStore
+pub mod Inverse
 pub mod NewMatches
 pub mod InTurn
 pub mod Lists

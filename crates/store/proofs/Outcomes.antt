@@ -106,7 +106,7 @@ nodes-count : (K : Kind) (m : List ℕ) → length (nodes-in K m) ≡ count K m
 nodes-count K m = rows-length (arity K) (count K m) (body K m)
 
 -- a memory written again
-same-memory : (K : Kind) (m : List ℕ) → Room K m → write K (recount K m (length (nodes-in K m))) (nodes-in K m) m ≡ m
+pub same-memory : (K : Kind) (m : List ℕ) → Room K m → write K (recount K m (length (nodes-in K m))) (nodes-in K m) m ≡ m
 same-memory K m R = ap (λ h. write K h (nodes-in K m) m) (ap (recount K m) (nodes-count K m) ∙ same-count K m (R .headed)) ∙ write-back K m R
 
 -- other nodes of one kind: only that kind's memory is written
