@@ -3,7 +3,7 @@ use mathlib.Core.Path.{_≡_, ap, _∙_}
 use mathlib.Core.List.{List}
 use Prim.Native.Nat.{ℕ}
 use lib.ListN.{length, replicate}
-use Rattle.store.specs.Memory.{Memories}
+use Rattle.judging.specs.Memory.{Memories}
 use Rattle.store.specs.Outcome.{Told, told}
 use Rattle.store.specs.Calls.{Call, step}
 use Rattle.store.specs.declared.Answer.{Answer}

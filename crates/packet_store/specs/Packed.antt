@@ -3,7 +3,7 @@ use mathlib.Core.Path.{_≡_}
 use mathlib.Core.List.{List}
 use Prim.Native.Nat.{ℕ, _+_, _*_, _^_}
 use lib.ListN.{length, getD, set as put, replicate}
-use Rattle.store.specs.Memory.{Memories}
+use Rattle.judging.specs.Memory.{Memories}
 use Rattle.store.specs.Answers.{refusal, values}
 use Rattle.store.specs.Calls.{Call, step}
 use Rattle.store.specs.declared.Answer.{Answer}

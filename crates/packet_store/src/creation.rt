@@ -1,5 +1,5 @@
 // The call that begins a store, under its C name.
-ghost use Rattle.store.specs.Memory.{memories};
+ghost use Rattle.judging.specs.Memory.{memories};
 ghost use Rattle.store.specs.Calls.{new-store};
 ghost use Rattle.packet_store.specs.Packed.{Answers};
 

@@ -1,5 +1,5 @@
 // The calls on relations that add nothing, under C names.
-ghost use Rattle.store.specs.Memory.{memories};
+ghost use Rattle.judging.specs.Memory.{memories};
 ghost use Rattle.store.specs.Calls.{relation-read};
 ghost use Rattle.store.specs.declared.relation_reads.RelationRead.the-variants.{Get, IsZero, Relates};
 ghost use Rattle.packet_store.specs.Packed.{filled-relation, Answers, AnswersChildren};

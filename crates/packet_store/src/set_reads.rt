@@ -1,5 +1,5 @@
 // The calls on sets that add nothing, under C names.
-ghost use Rattle.store.specs.Memory.{memories};
+ghost use Rattle.judging.specs.Memory.{memories};
 ghost use Rattle.store.specs.Calls.{set-read};
 ghost use Rattle.store.specs.declared.set_reads.SetRead.the-variants.{Get, Complement, IsZero, Intersects};
 ghost use Rattle.packet_store.specs.Packed.{filled-set, Answers, AnswersChildren};

@@ -4,8 +4,8 @@ use Rattle.nodes.specs.Store.{Kind, set, rel}
 use Rattle.nodes.specs.WellFormed.{Extends}
 use Rattle.store.specs.Calls.{Call, new-store, set-call, set-read, relation-call, relation-read, image-call, filter-call, path-read, step}
 use Rattle.store.specs.Lists.{plain-store, NewRefused, Matches}
-use Rattle.store.specs.Memory.{Memories, memories, fields, decode, encode}
-use Rattle.store.specs.Valid.{IsStore}
+use Rattle.judging.specs.Memory.{Memories, memories, fields, decode, encode}
+use Rattle.judging.specs.Valid.{IsStore}
 use Rattle.store.proofs.OneCall.{call-right}
 use Rattle.store.proofs.Outcomes.{same-memory}
 

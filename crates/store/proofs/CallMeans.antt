@@ -10,11 +10,11 @@ use Rattle.nodes.proofs.Bools.{by-test}
 use Rattle.nodes.proofs.Rules.{Does}
 use Rattle.store.specs.Calls.{Call, set-call, relation-call, set-places, rel-places, on-store, step}
 use Rattle.store.specs.Meanings.{set-meaning, relation-meaning}
-use Rattle.store.specs.Memory.{Memories, fields, decode, encode}
+use Rattle.judging.specs.Memory.{Memories, fields, decode, encode}
 use Rattle.store.specs.Outcome.{Verdict, declines, gives, runs, Told, told, concludes}
 use Rattle.store.specs.RelationCalls.{relation-verdict}
 use Rattle.store.specs.SetCalls.{set-verdict}
-use Rattle.store.specs.Valid.{IsStore}
+use Rattle.judging.specs.Valid.{IsStore}
 use Rattle.store.specs.declared.Answer.{Answer}
 use Rattle.store.specs.declared.Answer.the-variants.{Handle, Truth, SetNode, RelationNode, Declined}
 use Rattle.store.specs.declared.Refusal.{Refusal}

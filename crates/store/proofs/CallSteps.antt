@@ -13,10 +13,10 @@ use Rattle.nodes.specs.WellFormed.{WellFormed}
 use Rattle.memory.specs.Arena.{arena, Condition, PerformsOn}
 use Rattle.memory.specs.declared.Arena.{Arena}
 use Rattle.store.specs.Calls.{Call, on-store, step}
-use Rattle.store.specs.Checking.{Goes, AnsweredOn, Ready}
+use Rattle.store.specs.Checking.{Goes, AnsweredOn, Accepted}
 use Rattle.store.specs.Finishing.{Finished}
-use Rattle.store.specs.Judging.{StoreJudged}
-use Rattle.store.specs.Memory.{Memories, memory, head, count, fields, decode}
+use Rattle.judging.specs.Judging.{StoreJudged}
+use Rattle.judging.specs.Memory.{Memories, memory, head, count, fields, decode}
 use Rattle.store.specs.Outcome.{Verdict, gives, runs, told}
 use Rattle.store.specs.declared.Answer.{Answer}
 use Rattle.store.specs.declared.Answer.the-variants.{Declined}
@@ -51,7 +51,7 @@ pub reading-no-store : {c : Call} (A : Reading c) {M : Memories} {w w′ : List 
     → told (Declined NotStore) M ≡ step c M
 reading-no-store A {M} J f = not-store _ M (sym (J .says) ∙ f) ∙ sym (A .steps M)
 
-module _ (K : Kind) (M : Memories) (w : List ℕ) (Y : Ready K M w) (n : ℕ) (en : n ≡ count K (memory K M)) where
+module _ (K : Kind) (M : Memories) (w : List ℕ) (Y : Accepted K M w) (n : ℕ) (en : n ≡ count K (memory K M)) where
   module _ {c : Call} (A : Adding K c) (r : Check) (G : Goes (fields M) (decode M) (A .judge (fields M)) r) where
     pub adding-declined : (q : Refusal) → r ≡ No q → told (Declined q) M ≡ step c M
     adding-declined q e = check-no M (Y .store) (A .judge) r G (λ k S l. runs (A .program k l)) q e ∙ sym (A .steps M)

@@ -11,8 +11,8 @@ use Rattle.nodes.specs.WellFormed.{WellFormed}
 use Rattle.nodes.proofs.Canonical.{Sized, formed-sized}
 use Rattle.memory.specs.Rows.{row, rows}
 use Rattle.memory.proofs.Rows.{rows-length, rows-at}
-use Rattle.store.specs.Memory.{Memories, memory, head, count, fields, body, places-in, nodes-in, decode, flat, write, encode}
-use Rattle.store.specs.Valid.{Room, IsStore}
+use Rattle.judging.specs.Memory.{Memories, memory, head, count, fields, body, places-in, nodes-in, decode, flat, write, encode}
+use Rattle.judging.specs.Valid.{Room, IsStore}
 use Rattle.store.proofs.Writing.{spread, places-end}
 
 -- each node has c numbers

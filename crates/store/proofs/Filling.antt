@@ -31,12 +31,12 @@ use Rattle.memory.proofs.Rows.{rows-length}
 use Rattle.memory.proofs.Starting.{right-turned, right-cleared}
 use Rattle.memory.proofs.Walks.{T-true}
 use Rattle.store.specs.Calls.{set-places, rel-places, on-store}
-use Rattle.store.specs.Checking.{Ready}
+use Rattle.store.specs.Checking.{Accepted}
 use Rattle.store.specs.Creating.{set-constants, relation-constants, Begun, Created}
 use Rattle.store.specs.Finishing.{Finished}
-use Rattle.store.specs.Memory.{Memories, memories, memory, count, fields, body, decode, encode}
+use Rattle.judging.specs.Memory.{Memories, memories, memory, count, fields, body, decode, encode}
 use Rattle.store.specs.Outcome.{runs, told}
-use Rattle.store.specs.Valid.{IsStore}
+use Rattle.judging.specs.Valid.{IsStore}
 use Rattle.store.specs.declared.Answer.{Answer}
 use Rattle.store.specs.declared.Answer.the-variants.{Handle}
 use Rattle.store.proofs.Encoding.{Space, encode-fields, decode-encode, encode-places, encode-store, encode-encode}
@@ -89,7 +89,7 @@ module _ (k : ℕ) (M : Memories) (w : List ℕ) (G : Begun k M w) where
       zero-nodes rel = refl
 
   -- THE SETS
-  ready-sets : Ready set M w
+  ready-sets : Accepted set M w
   ready-sets = record {
     store = G .store;
     right = subst (λ n. Right set (decode M) w (body set (M .sets)) n) (none set)
@@ -162,7 +162,7 @@ module _ (k : ℕ) (M : Memories) (w : List ℕ) (G : Begun k M w) where
         unfolding rows
         turned = (λ i. record { sets = read-first i .sets; rels = [] }) ∙ (λ i. record { sets = S₁ .sets; rels = sym no-relation i }) ∙ sym left
 
-        ready-relations : Ready rel M₁ w₂
+        ready-relations : Accepted rel M₁ w₂
         ready-relations = record {
           store = store-first;
           right = subst (λ n. Right rel (decode M₁) w₂ (body rel (M₁ .relations)) n) none-first (right-turned turned (ran .done all-fitted .work) E);

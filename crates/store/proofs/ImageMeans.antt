@@ -9,9 +9,9 @@ use Rattle.nodes.proofs.YesNo.{has-image-does, has-path-does}
 use Rattle.store.specs.Calls.{image-call, filter-call, path-read, step}
 use Rattle.store.specs.ImageCalls.{image-verdict, filter-verdict, path-verdict}
 use Rattle.store.specs.ImageMeanings.{image-meaning, filter-meaning, path-meaning}
-use Rattle.store.specs.Memory.{Memories, fields, decode}
+use Rattle.judging.specs.Memory.{Memories, fields, decode}
 use Rattle.store.specs.Outcome.{Verdict, gives}
-use Rattle.store.specs.Valid.{IsStore}
+use Rattle.judging.specs.Valid.{IsStore}
 use Rattle.store.specs.declared.Answer.{Answer}
 use Rattle.store.specs.declared.Answer.the-variants.{Handle, Declined}
 use Rattle.store.specs.declared.Refusal.{Refusal}

@@ -5,7 +5,7 @@ use Rattle.store.specs.Calls.{image-call, filter-call, path-read, on-sto
 use Rattle.store.specs.ImageCalls.{image-declines, image-program, image-verdict, filter-declines, filter-program, filter-verdict}
 use Rattle.store.specs.ImageCalls.{path-declines, path-answer, path-verdict}
 use Rattle.store.specs.ImageChecking.{PathSafe}
-use Rattle.store.specs.Memory.{Memories}
+use Rattle.judging.specs.Memory.{Memories}
 use Rattle.store.specs.declared.image_calls.ImageCall.{ImageCall}
 use Rattle.store.specs.declared.filter_calls.FilterCall.{FilterCall}
 use Rattle.store.specs.declared.path_reads.PathRead.{PathRead}

@@ -16,9 +16,9 @@ use Rattle.nodes.proofs.Levels.{level-is}
 use Rattle.store.specs.Calls.{image-call, filter-call, step}
 use Rattle.store.specs.ImageCalls.{filter-verdict}
 use Rattle.store.specs.ImageMeanings.{image-meaning, filter-meaning}
-use Rattle.store.specs.Memory.{Memories, fields, decode}
+use Rattle.judging.specs.Memory.{Memories, fields, decode}
 use Rattle.store.specs.Outcome.{Told}
-use Rattle.store.specs.Valid.{IsStore}
+use Rattle.judging.specs.Valid.{IsStore}
 use Rattle.store.specs.declared.Answer.the-variants.{Handle}
 use Rattle.store.specs.declared.Refusal.the-variants.{NotHeld}
 use Rattle.store.specs.declared.image_calls.ImageCall.the-variants.{Bwd}

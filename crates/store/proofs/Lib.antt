@@ -1,9 +1,3 @@
-pub mod Deciding
-pub mod Decide
-pub mod Fitting
-pub mod Rooms
-pub mod Both
-pub mod Whole
 pub mod Handles
 pub mod TwoKinds
 pub mod Reading

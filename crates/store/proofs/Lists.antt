@@ -8,7 +8,7 @@ use Rattle.nodes.proofs.Extends.{ext-trans, ext-held, ext-walk}
 use Rattle.store.specs.Calls.{Call, new-store, set-places, rel-places, step}
 use Rattle.store.specs.Lists.{Plain, plain-step, Listed, answer-of, left-by, steps, plain-steps, NewRefused, NewsRefused, Matches}
 use Rattle.store.specs.Lists.{Grown, Lasts, ListRight}
-use Rattle.store.specs.Memory.{Memories, decode}
+use Rattle.judging.specs.Memory.{Memories, decode}
 use Rattle.store.specs.Outcome.{Told}
 use Rattle.store.specs.declared.Answer.{Answer}
 use Rattle.store.specs.declared.Answer.the-variants.{Handle}

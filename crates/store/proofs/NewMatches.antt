@@ -12,7 +12,7 @@ use Rattle.nodes.proofs.Bools.{and-T, by-test}
 use Rattle.nodes.proofs.New.{new-does}
 use Rattle.store.specs.Calls.{new-store, set-places, rel-places, heads?, step}
 use Rattle.store.specs.Lists.{begun, Matches}
-use Rattle.store.specs.Memory.{Memories, memory, head, encode}
+use Rattle.judging.specs.Memory.{Memories, memory, head, encode}
 use Rattle.store.specs.Outcome.{runs, provided, Told, told, concludes}
 use Rattle.store.specs.declared.Answer.the-variants.{Handle, Declined}
 use Rattle.store.specs.declared.Refusal.the-variants.{NotStore, OutOfRange, UsedUp}

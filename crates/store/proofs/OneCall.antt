@@ -21,7 +21,7 @@ use Rattle.store.specs.Calls.{Call, new-store, set-call, set-read, relat
 use Rattle.store.specs.Calls.{set-places, rel-places, on-store, heads?, step}
 use Rattle.store.specs.ImageCalls.{image-verdict, filter-verdict, path-verdict}
 use Rattle.store.specs.Lists.{Plain, plain-store, on-lists, plain-step, Refused, Matches, Alike, Grown, CallRight}
-use Rattle.store.specs.Memory.{Memories, memory, head, fields, decode, encode}
+use Rattle.judging.specs.Memory.{Memories, memory, head, fields, decode, encode}
 use Rattle.store.specs.Outcome.{Verdict, declines, gives, runs, provided, told, concludes}
 use Rattle.store.specs.RelationCalls.{relation-verdict, relation-read-verdict}
 use Rattle.store.specs.SetCalls.{set-verdict, set-read-verdict}

@@ -20,15 +20,15 @@ use Rattle.memory.specs.declared.Arena.{Arena}
 use Rattle.memory.proofs.Rows.{rows-length, places-fit, plain-nodes}
 use Rattle.store.specs.Calls.{set-places, rel-places, on-store}
 use Rattle.store.specs.Finishing.{Finished}
-use Rattle.store.specs.Memory.{Memories, memories, memory, head, count, fields, body, places-in, nodes-in, decode, write, encode}
+use Rattle.judging.specs.Memory.{Memories, memories, memory, head, count, fields, body, places-in, nodes-in, decode, write, encode}
 use Rattle.store.specs.Outcome.{Verdict, declines, gives, runs, provided, Told, told, concludes}
-use Rattle.store.specs.Valid.{Room, IsStore, store?}
+use Rattle.judging.specs.Valid.{Room, IsStore, store?}
 use Rattle.store.specs.declared.Answer.{Answer}
 use Rattle.store.specs.declared.Answer.the-variants.{Handle, Declined}
 use Rattle.store.specs.declared.Refusal.{Refusal}
 use Rattle.store.specs.declared.Refusal.the-variants.{NotStore, UsedUp}
-use Rattle.store.proofs.Decide.{store-says}
-use Rattle.store.proofs.Deciding.{decided-true}
+use Rattle.judging.proofs.Decide.{store-says}
+use Rattle.judging.proofs.Deciding.{decided-true}
 use Rattle.store.proofs.Handles.{provided-yes, provided-no}
 use Rattle.store.proofs.Writing.{spread, room-free, write-body, write-back, cleared-back}
 

@@ -19,12 +19,12 @@ use Rattle.nodes.proofs.Pointwise.{complement-does}
 use Rattle.nodes.proofs.Rules.{den-child}
 use Rattle.nodes.proofs.YesNo.{is-zero-does, intersects-does}
 use Rattle.store.specs.Calls.{set-read, relation-read, set-places, rel-places, on-store, step}
-use Rattle.store.specs.Memory.{Memories, fields, decode, encode}
+use Rattle.judging.specs.Memory.{Memories, fields, decode, encode}
 use Rattle.store.specs.Outcome.{Verdict, declines, gives, runs, Told, concludes}
 use Rattle.store.specs.ReadMeanings.{SetChildren, RelationChildren, set-read-meaning, relation-read-meaning}
 use Rattle.store.specs.RelationCalls.{relation-read-verdict}
 use Rattle.store.specs.SetCalls.{set-read-verdict}
-use Rattle.store.specs.Valid.{IsStore}
+use Rattle.judging.specs.Valid.{IsStore}
 use Rattle.store.specs.declared.Answer.{Answer}
 use Rattle.store.specs.declared.Answer.the-variants.{Declined}
 use Rattle.store.specs.declared.Refusal.{Refusal}

@@ -2,7 +2,7 @@
 use mathlib.Core.Path.{_≡_, refl}
 use Rattle.nodes.specs.Store.{rel}
 use Rattle.store.specs.Calls.{relation-call, relation-read, on-store, step}
-use Rattle.store.specs.Memory.{Memories}
+use Rattle.judging.specs.Memory.{Memories}
 use Rattle.store.specs.RelationCalls.{relation-declines, relation-program, relation-verdict, relation-read-declines, relation-read-answer}
 use Rattle.store.specs.RelationCalls.{relation-read-verdict}
 use Rattle.store.specs.RelationChecking.{RelationReadSafe}

@@ -18,24 +18,24 @@ use Rattle.memory.specs.Working.{Right}
 use Rattle.memory.specs.declared.Arena.{Arena}
 use Rattle.memory.proofs.Rows.{places-fit}
 use Rattle.store.specs.Calls.{on-store}
-use Rattle.store.specs.Checking.{checked, Low, Goes, Checks, ChecksBoth, Ready}
+use Rattle.store.specs.Checking.{checked, Low, Goes, Checks, ChecksBoth, Accepted}
 use Rattle.store.specs.Finishing.{Finished}
-use Rattle.store.specs.Judging.{kind-last, both, StoreJudged}
-use Rattle.store.specs.Memory.{Memories, memory, head, count, fields, body, decode}
+use Rattle.judging.specs.Judging.{kind-last, both, StoreJudged}
+use Rattle.judging.specs.Memory.{Memories, memory, head, count, fields, body, decode}
 use Rattle.store.specs.Outcome.{Verdict, declines, runs, told}
-use Rattle.store.specs.Valid.{IsStore}
+use Rattle.judging.specs.Valid.{IsStore}
 use Rattle.store.specs.declared.Answer.{Answer}
 use Rattle.store.specs.declared.Answer.the-variants.{Declined}
 use Rattle.store.specs.declared.Check.{Check}
 use Rattle.store.specs.declared.Check.the-variants.{Level, No}
 use Rattle.store.specs.declared.Refusal.{Refusal}
-use Rattle.store.proofs.Decide.{store-says}
+use Rattle.judging.proofs.Decide.{store-says}
 use Rattle.store.proofs.Outcomes.{with-memory, decoded, declined, ran-on}
-use Rattle.store.proofs.Whole.{whole-part}
+use Rattle.judging.proofs.Whole.{whole-part}
 use Rattle.store.proofs.Writing.{tail-put}
 
 -- judged memories
-pub judged-ready : {M : Memories} {w w′ : List ℕ} {last r : Bool} → StoreJudged M last w w′ r → r ≡ true → Ready (kind-last last) M w′
+pub judged-ready : {M : Memories} {w w′ : List ℕ} {last r : Bool} → StoreJudged M last w w′ r → r ≡ true → Accepted (kind-last last) M w′
 judged-ready {M} J t = record { store = store-says M .iff .0 (subst T (sym t ∙ J .says) tt); right = J .right t }
 
 -- the part after the head, as the code lends it on
@@ -56,7 +56,7 @@ module _ (K : Kind) (M : Memories) (s : IsStore M) (n : ℕ) (en : n ≡ count K
   room-here = subst (λ b. n ≤ places (arity K) b) (sym (whole-part (head K) (memory K M)))
       (subst (λ n. n ≤ places (arity K) (body K (memory K M))) (sym en) (s .room K .within))
 
-pub ready-here : (K : Kind) (M : Memories) (w : List ℕ) (n : ℕ) → Ready K M w → n ≡ count K (memory K M) → Here K M w n
+pub ready-here : (K : Kind) (M : Memories) (w : List ℕ) (n : ℕ) → Accepted K M w → n ≡ count K (memory K M) → Here K M w n
 ready-here K M w n Y en = let e = whole-part (head K) (memory K M) in record {
   nodes = nodes-here K M (Y .store) n en;
   room = room-here K M (Y .store) n en;
@@ -103,7 +103,7 @@ module _ (M : Memories) (s : IsStore M) where
       subst (λ S. Goes (fields M) S judge r) e (C .goes (a .within) (b .within) (subst (WellFormed (fields M)) (sym e) (s .formed)))
 
 -- A PROGRAM of the kind K
-module _ (K : Kind) (M : Memories) (w : List ℕ) (Y : Ready K M w) (n : ℕ) (en : n ≡ count K (memory K M)) where
+module _ (K : Kind) (M : Memories) (w : List ℕ) (Y : Accepted K M w) (n : ℕ) (en : n ≡ count K (memory K M)) where
   abbrev m : List ℕ
   m = memory K M
 

@@ -2,7 +2,7 @@
 use mathlib.Core.Path.{_≡_, refl}
 use Rattle.nodes.specs.Store.{set}
 use Rattle.store.specs.Calls.{set-call, set-read, on-store, step}
-use Rattle.store.specs.Memory.{Memories}
+use Rattle.judging.specs.Memory.{Memories}
 use Rattle.store.specs.SetCalls.{set-declines, set-program, set-verdict, set-read-declines, set-read-answer, set-read-verdict}
 use Rattle.store.specs.SetChecking.{SetReadSafe}
 use Rattle.store.specs.declared.set_calls.SetCall.{SetCall}

@@ -12,7 +12,7 @@ use Rattle.memory.specs.Noting.{LevelIs}
 use Rattle.memory.specs.Rows.{places}
 use Rattle.memory.proofs.Rows.{rows-length}
 use Rattle.store.specs.Checking.{checked, Low, Goes, Checks, ChecksBoth}
-use Rattle.store.specs.Judging.{both}
+use Rattle.judging.specs.Judging.{both}
 use Rattle.store.specs.Outcome.{Verdict, declines, provided, of-pair, of-path}
 use Rattle.store.specs.declared.Check.{Check}
 use Rattle.store.specs.declared.Check.the-variants.{Level, No}

@@ -12,8 +12,8 @@ use Rattle.nodes.specs.Store.{Kind, set, rel, arity, Nodes}
 use Rattle.memory.specs.Rows.{row, rows, places}
 use Rattle.memory.proofs.Rows.{rows-snoc, rows-length, mul-add-one, places-fit}
 use Rattle.store.specs.Finishing.{cleared}
-use Rattle.store.specs.Memory.{head, count, body, places-in, nodes-in, flat, write}
-use Rattle.store.specs.Valid.{Room}
+use Rattle.judging.specs.Memory.{head, count, body, places-in, nodes-in, flat, write}
+use Rattle.judging.specs.Valid.{Room}
 
 -- NUMBERS OF NODES
 flat-snoc : (N : Nodes) (x : List ℕ) → flat (N ++ (x ∷ [])) ≡ flat N ++ x

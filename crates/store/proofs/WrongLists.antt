@@ -16,7 +16,7 @@ use Rattle.nodes.proofs.Bools.{by-test, on-bits}
 use Rattle.nodes.proofs.Bounded.{fits-places-iff}
 use Rattle.store.specs.Calls.{Call, new-store, set-call, set-places, rel-places, step}
 use Rattle.store.specs.Lists.{Plain, plain-store, on-lists, plain-step, begun, in-turn, plain-steps, Matches, Lasts, on-memories}
-use Rattle.store.specs.Memory.{Memories, memories, decode}
+use Rattle.judging.specs.Memory.{Memories, memories, decode}
 use Rattle.store.specs.Outcome.{Verdict, runs, provided, told, concludes}
 use Rattle.store.specs.declared.Answer.the-variants.{Handle, Declined}
 use Rattle.store.specs.declared.Refusal.the-variants.{UsedUp}

@@ -5,8 +5,8 @@ use lib.ListN.{length}
 use lib.Dec.{leb}
 use Rattle.nodes.specs.Store.{set, rel, Store}
 use Rattle.nodes.specs.Images.{blank, new}
-use Rattle.store.specs.Memory.{Memories, head, fields, places-in, decode, encode}
-use Rattle.store.specs.Valid.{store?}
+use Rattle.judging.specs.Memory.{Memories, head, fields, places-in, decode, encode}
+use Rattle.judging.specs.Valid.{store?}
 use Rattle.store.specs.Outcome.{Verdict, runs, provided, Told, concludes}
 use Rattle.store.specs.SetCalls.{set-verdict, set-read-verdict}
 use Rattle.store.specs.RelationCalls.{relation-verdict, relation-read-verdict}

@@ -9,9 +9,9 @@ use Rattle.nodes.specs.WellFormed.{WellFormed, is-held, level-of}
 use Rattle.memory.specs.Arena.{Condition, Any}
 use Rattle.memory.specs.Rows.{places, plain}
 use Rattle.memory.specs.Working.{Right}
-use Rattle.store.specs.Judging.{both}
-use Rattle.store.specs.Memory.{Memories, memory, count, body, decode}
-use Rattle.store.specs.Valid.{IsStore}
+use Rattle.judging.specs.Judging.{both}
+use Rattle.judging.specs.Memory.{Memories, memory, count, body, decode}
+use Rattle.judging.specs.Valid.{IsStore}
 use Rattle.store.specs.Outcome.{Verdict, declines}
 use Rattle.store.specs.declared.Answer.{Answer}
 use Rattle.store.specs.declared.Check.{Check}
@@ -55,6 +55,6 @@ abbrev pub Answered : Kind → List ℕ → List ℕ → ℕ → (Store → Type
 Answered K m w n safe answer r = AnsweredOn Any K m w n safe answer r
 
 -- memories that were judged: a store, with the working memory right for the nodes of kind K
-pub record Ready (K : Kind) (M : Memories) (w : List ℕ) : Type 0 where
+pub record Accepted (K : Kind) (M : Memories) (w : List ℕ) : Type 0 where
   pub store : IsStore M
   pub right : Right K (decode M) w (body K (memory K M)) (count K (memory K M))

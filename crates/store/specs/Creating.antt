@@ -7,8 +7,8 @@ use Rattle.nodes.specs.Store.{set, rel}
 use Rattle.nodes.specs.Programs.{Prog, bind, _>>=_, run}
 use Rattle.nodes.specs.Operations.{zero-at-depth, one-at-depth, top-at-depth}
 use Rattle.nodes.specs.Images.{blank, new}
-use Rattle.store.specs.Memory.{Memories, fields, encode, decode}
-use Rattle.store.specs.Valid.{IsStore}
+use Rattle.judging.specs.Memory.{Memories, fields, encode, decode}
+use Rattle.judging.specs.Valid.{IsStore}
 use Rattle.store.specs.Outcome.{told}
 use Rattle.store.specs.Calls.{new-store, set-places, rel-places, step}
 use Rattle.store.specs.declared.Answer.{Answer}

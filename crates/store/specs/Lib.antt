@@ -1,5 +1,3 @@
-pub mod Memory
-pub mod Valid
 pub mod Answers
 pub mod Outcome
 pub mod SetCalls
@@ -10,7 +8,6 @@ pub mod Meanings
 pub mod ReadMeanings
 pub mod ImageMeanings
 pub mod Lists
-pub mod Judging
 pub mod Checking
 pub mod SetChecking
 pub mod RelationChecking

@@ -12,11 +12,11 @@ use Rattle.nodes.specs.WellFormed.{Held, Extends}
 use Rattle.store.specs.Calls.{Call, new-store, set-call, set-read, relation-call, relation-read, image-call, filter-call, path-read}
 use Rattle.store.specs.Calls.{set-places, rel-places, step}
 use Rattle.store.specs.ImageCalls.{image-verdict, filter-verdict, path-verdict}
-use Rattle.store.specs.Memory.{Memories, memory, fields, places-in, decode, encode}
+use Rattle.judging.specs.Memory.{Memories, memory, fields, places-in, decode, encode}
 use Rattle.store.specs.Outcome.{Verdict, runs, provided, Told, concludes}
 use Rattle.store.specs.RelationCalls.{relation-verdict, relation-read-verdict}
 use Rattle.store.specs.SetCalls.{set-verdict, set-read-verdict}
-use Rattle.store.specs.Valid.{IsStore}
+use Rattle.judging.specs.Valid.{IsStore}
 use Rattle.store.specs.declared.Answer.{Answer}
 use Rattle.store.specs.declared.Answer.the-variants.{Handle, Declined}
 use Rattle.store.specs.declared.Refusal.{Refusal}

@@ -4,11 +4,11 @@ ghost use Prim.Native.Nat.{ℕ};
 ghost use lib.ListN.{length, replicate};
 ghost use Rattle.nodes.specs.Store.{set, rel};
 ghost use Rattle.memory.specs.Arena.{PerformsOn, Beside};
-ghost use Rattle.store.specs.Memory.{memories};
+ghost use Rattle.judging.specs.Memory.{memories};
 ghost use Rattle.store.specs.Outcome.{told};
 ghost use Rattle.store.specs.Calls.{filter-call, step};
 ghost use Rattle.store.specs.ImageCalls.{filter-declines, filter-program};
-ghost use Rattle.store.specs.Checking.{Checks, Ready};
+ghost use Rattle.store.specs.Checking.{Checks, Accepted};
 
 // A call with its argument, a set, after spp.rs.
 pub enum FilterCall {
@@ -49,7 +49,7 @@ fn perform(
 
 // Checks a call on a store, and runs it.
 fn judged(relations: &mut [u32], sets: &[u32], work: &mut [u32], call: FilterCall) -> crate::Answer
-    requires { ⌜ Ready rel (memories (now relations) (now sets)) (now work) ⌝ }
+    requires { ⌜ Accepted rel (memories (now relations) (now sets)) (now work) ⌝ }
     ensures { λ r. ⌜ told r (memories (now (relations .exit)) (now (sets .entry)))
         ≡ step (filter-call call) (memories (now (relations .entry)) (now (sets .entry))) ⌝ }
 {
@@ -89,7 +89,7 @@ pub fn filter_call(
         ≡ step (filter-call call) (memories (now (relations .entry)) (now (sets .entry))))
         × (now (work .exit) ≡ replicate (length (now (work .entry))) 0) ⌝ }
 {
-    if !crate::judge::is_store(relations, sets, work, false) {
+    if !judging::is_store(relations, sets, work, false) {
         nodes::clear(work);
         return crate::Answer::Declined(crate::Refusal::NotStore);
     }

@@ -4,11 +4,11 @@ ghost use Prim.Native.Nat.{ℕ};
 ghost use lib.ListN.{length, replicate};
 ghost use Rattle.nodes.specs.Store.{set};
 ghost use Rattle.memory.specs.Arena.{PerformsOn, Beside};
-ghost use Rattle.store.specs.Memory.{memories};
+ghost use Rattle.judging.specs.Memory.{memories};
 ghost use Rattle.store.specs.Outcome.{told};
 ghost use Rattle.store.specs.Calls.{image-call, step};
 ghost use Rattle.store.specs.ImageCalls.{image-declines, image-program};
-ghost use Rattle.store.specs.Checking.{ChecksBoth, Ready};
+ghost use Rattle.store.specs.Checking.{ChecksBoth, Accepted};
 
 // A call with its arguments, after spp.rs: `fwd` and `bwd` of a relation, `push` of a set through a relation, `pull` of a relation and a set.
 pub enum ImageCall {
@@ -59,7 +59,7 @@ fn perform(
 
 // Checks a call on a store, and runs it.
 fn judged(relations: &[u32], sets: &mut [u32], work: &mut [u32], call: ImageCall) -> crate::Answer
-    requires { ⌜ Ready set (memories (now relations) (now sets)) (now work) ⌝ }
+    requires { ⌜ Accepted set (memories (now relations) (now sets)) (now work) ⌝ }
     ensures { λ r. ⌜ told r (memories (now (relations .entry)) (now (sets .exit)))
         ≡ step (image-call call) (memories (now (relations .entry)) (now (sets .entry))) ⌝ }
 {
@@ -99,7 +99,7 @@ pub fn image_call(
         ≡ step (image-call call) (memories (now (relations .entry)) (now (sets .entry))))
         × (now (work .exit) ≡ replicate (length (now (work .entry))) 0) ⌝ }
 {
-    if !crate::judge::is_store(relations, sets, work, true) {
+    if !judging::is_store(relations, sets, work, true) {
         nodes::clear(work);
         return crate::Answer::Declined(crate::Refusal::NotStore);
     }

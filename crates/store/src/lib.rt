@@ -7,12 +7,10 @@ pub mod creation;
 pub mod filter_calls;
 mod finish;
 pub mod image_calls;
-pub mod judge;
 mod operands;
 pub mod path_reads;
 pub mod relation_calls;
 pub mod relation_reads;
-mod room;
 pub mod set_calls;
 pub mod set_reads;
 

@@ -4,12 +4,12 @@ ghost use Prim.Native.Nat.{ℕ};
 ghost use lib.ListN.{length, replicate};
 ghost use Rattle.nodes.specs.Store.{set};
 ghost use Rattle.memory.specs.Arena.{Beside};
-ghost use Rattle.store.specs.Memory.{memories};
+ghost use Rattle.judging.specs.Memory.{memories};
 ghost use Rattle.store.specs.Outcome.{told};
 ghost use Rattle.store.specs.Calls.{path-read, step};
 ghost use Rattle.store.specs.ImageCalls.{path-declines, path-answer};
 ghost use Rattle.store.specs.ImageChecking.{PathSafe};
-ghost use Rattle.store.specs.Checking.{ChecksBoth, AnsweredOn, Ready};
+ghost use Rattle.store.specs.Checking.{ChecksBoth, AnsweredOn, Accepted};
 
 // A call with its arguments, after spp.rs: an input set and a relation, and for `has_path` an output set.
 pub enum PathRead {
@@ -65,7 +65,7 @@ fn answer(
 
 // Checks a call on a store, and answers it.
 fn judged(relations: &[u32], sets: &[u32], work: &mut [u32], call: PathRead) -> crate::Answer
-    requires { ⌜ Ready set (memories (now relations) (now sets)) (now work) ⌝ }
+    requires { ⌜ Accepted set (memories (now relations) (now sets)) (now work) ⌝ }
     ensures { λ r. ⌜ told r (memories (now (relations .entry)) (now (sets .entry)))
         ≡ step (path-read call) (memories (now (relations .entry)) (now (sets .entry))) ⌝ }
 {
@@ -92,7 +92,7 @@ pub fn path_read(relations: &[u32], sets: &[u32], work: &mut [u32], call: PathRe
         ≡ step (path-read call) (memories (now (relations .entry)) (now (sets .entry))))
         × (now (work .exit) ≡ replicate (length (now (work .entry))) 0) ⌝ }
 {
-    if !crate::judge::is_store(relations, sets, work, true) {
+    if !judging::is_store(relations, sets, work, true) {
         nodes::clear(work);
         return crate::Answer::Declined(crate::Refusal::NotStore);
     }

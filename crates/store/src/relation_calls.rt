@@ -3,11 +3,11 @@ ghost use mathlib.Core.Path.{_≡_};
 ghost use lib.ListN.{length, replicate};
 ghost use Rattle.nodes.specs.Store.{rel};
 ghost use Rattle.memory.specs.Arena.{Performs};
-ghost use Rattle.store.specs.Memory.{memories};
+ghost use Rattle.judging.specs.Memory.{memories};
 ghost use Rattle.store.specs.Outcome.{told};
 ghost use Rattle.store.specs.Calls.{relation-call, step};
 ghost use Rattle.store.specs.RelationCalls.{relation-declines, relation-program};
-ghost use Rattle.store.specs.Checking.{Checks, Ready};
+ghost use Rattle.store.specs.Checking.{Checks, Accepted};
 ghost use Rattle.store.specs.RelationChecking.{RelationFieldFits};
 
 // A call with its arguments, after spp.rs: handles, and for `test` and `assign` a field first; a value is 0 or 1.
@@ -114,7 +114,7 @@ fn judged(
     work: &mut [u32],
     call: RelationCall,
 ) -> crate::Answer
-    requires { ⌜ Ready rel (memories (now relations) (now sets)) (now work) ⌝ }
+    requires { ⌜ Accepted rel (memories (now relations) (now sets)) (now work) ⌝ }
     ensures { λ r. ⌜ told r (memories (now (relations .exit)) (now (sets .entry)))
         ≡ step (relation-call call) (memories (now (relations .entry)) (now (sets .entry))) ⌝ }
 {
@@ -153,7 +153,7 @@ pub fn relation_call(
         ≡ step (relation-call call) (memories (now (relations .entry)) (now (sets .entry))))
         × (now (work .exit) ≡ replicate (length (now (work .entry))) 0) ⌝ }
 {
-    if !crate::judge::is_store(relations, sets, work, false) {
+    if !judging::is_store(relations, sets, work, false) {
         nodes::clear(work);
         return crate::Answer::Declined(crate::Refusal::NotStore);
     }

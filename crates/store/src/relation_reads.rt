@@ -3,11 +3,11 @@ ghost use mathlib.Core.Path.{_≡_};
 ghost use Prim.Native.Nat.{ℕ, _^_, _<_, _≤_};
 ghost use lib.ListN.{length, replicate};
 ghost use Rattle.nodes.specs.Store.{rel};
-ghost use Rattle.store.specs.Memory.{memories};
+ghost use Rattle.judging.specs.Memory.{memories};
 ghost use Rattle.store.specs.Outcome.{told};
 ghost use Rattle.store.specs.Calls.{relation-read, step};
 ghost use Rattle.store.specs.RelationCalls.{relation-read-declines, relation-read-answer};
-ghost use Rattle.store.specs.Checking.{Checks, Answered, Ready};
+ghost use Rattle.store.specs.Checking.{Checks, Answered, Accepted};
 ghost use Rattle.store.specs.RelationChecking.{RelationReadSafe, WalksPair};
 
 // A call with its arguments, after spp.rs; `relates` has a relation, an input and an output.
@@ -86,7 +86,7 @@ fn answer(nodes: &[u32], work: &mut [u32], n: usize, level: u8, call: RelationRe
 
 // Checks a call on a store, and answers it.
 fn judged(relations: &[u32], sets: &[u32], work: &mut [u32], call: RelationRead) -> crate::Answer
-    requires { ⌜ Ready rel (memories (now relations) (now sets)) (now work) ⌝ }
+    requires { ⌜ Accepted rel (memories (now relations) (now sets)) (now work) ⌝ }
     ensures { λ r. ⌜ told r (memories (now (relations .entry)) (now (sets .entry)))
         ≡ step (relation-read call) (memories (now (relations .entry)) (now (sets .entry))) ⌝ }
 {
@@ -110,7 +110,7 @@ pub fn relation_read(
         ≡ step (relation-read call) (memories (now (relations .entry)) (now (sets .entry))))
         × (now (work .exit) ≡ replicate (length (now (work .entry))) 0) ⌝ }
 {
-    if !crate::judge::is_store(relations, sets, work, false) {
+    if !judging::is_store(relations, sets, work, false) {
         nodes::clear(work);
         return crate::Answer::Declined(crate::Refusal::NotStore);
     }

@@ -3,11 +3,11 @@ ghost use mathlib.Core.Path.{_≡_};
 ghost use lib.ListN.{length, replicate};
 ghost use Rattle.nodes.specs.Store.{set};
 ghost use Rattle.memory.specs.Arena.{Performs};
-ghost use Rattle.store.specs.Memory.{memories};
+ghost use Rattle.judging.specs.Memory.{memories};
 ghost use Rattle.store.specs.Outcome.{told};
 ghost use Rattle.store.specs.Calls.{set-call, step};
 ghost use Rattle.store.specs.SetCalls.{set-declines, set-program};
-ghost use Rattle.store.specs.Checking.{Checks, Ready};
+ghost use Rattle.store.specs.Checking.{Checks, Accepted};
 ghost use Rattle.store.specs.SetChecking.{SetFieldFits};
 
 // A call with its arguments, after sp.rs: handles, and for `test` and `ifelse` a field first; a value is 0 or 1.
@@ -82,7 +82,7 @@ fn perform(
 
 // Checks a call on a store, and runs it.
 fn judged(relations: &[u32], sets: &mut [u32], work: &mut [u32], call: SetCall) -> crate::Answer
-    requires { ⌜ Ready set (memories (now relations) (now sets)) (now work) ⌝ }
+    requires { ⌜ Accepted set (memories (now relations) (now sets)) (now work) ⌝ }
     ensures { λ r. ⌜ told r (memories (now (relations .entry)) (now (sets .exit)))
         ≡ step (set-call call) (memories (now (relations .entry)) (now (sets .entry))) ⌝ }
 {
@@ -121,7 +121,7 @@ pub fn set_call(
         ≡ step (set-call call) (memories (now (relations .entry)) (now (sets .entry))))
         × (now (work .exit) ≡ replicate (length (now (work .entry))) 0) ⌝ }
 {
-    if !crate::judge::is_store(relations, sets, work, true) {
+    if !judging::is_store(relations, sets, work, true) {
         nodes::clear(work);
         return crate::Answer::Declined(crate::Refusal::NotStore);
     }

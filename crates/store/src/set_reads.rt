@@ -2,11 +2,11 @@
 ghost use mathlib.Core.Path.{_≡_};
 ghost use lib.ListN.{length, replicate};
 ghost use Rattle.nodes.specs.Store.{set};
-ghost use Rattle.store.specs.Memory.{memories};
+ghost use Rattle.judging.specs.Memory.{memories};
 ghost use Rattle.store.specs.Outcome.{told};
 ghost use Rattle.store.specs.Calls.{set-read, step};
 ghost use Rattle.store.specs.SetCalls.{set-read-declines, set-read-answer};
-ghost use Rattle.store.specs.Checking.{Checks, Answered, Ready};
+ghost use Rattle.store.specs.Checking.{Checks, Answered, Accepted};
 ghost use Rattle.store.specs.SetChecking.{SetReadSafe};
 
 // A call with its arguments, after sp.rs.
@@ -57,7 +57,7 @@ fn answer(nodes: &[u32], work: &mut [u32], n: usize, level: u8, call: SetRead) -
 
 // Checks a call on a store, and answers it.
 fn judged(relations: &[u32], sets: &[u32], work: &mut [u32], call: SetRead) -> crate::Answer
-    requires { ⌜ Ready set (memories (now relations) (now sets)) (now work) ⌝ }
+    requires { ⌜ Accepted set (memories (now relations) (now sets)) (now work) ⌝ }
     ensures { λ r. ⌜ told r (memories (now (relations .entry)) (now (sets .entry)))
         ≡ step (set-read call) (memories (now (relations .entry)) (now (sets .entry))) ⌝ }
 {
@@ -76,7 +76,7 @@ pub fn set_read(relations: &[u32], sets: &[u32], work: &mut [u32], call: SetRead
         ≡ step (set-read call) (memories (now (relations .entry)) (now (sets .entry))))
         × (now (work .exit) ≡ replicate (length (now (work .entry))) 0) ⌝ }
 {
-    if !crate::judge::is_store(relations, sets, work, true) {
+    if !judging::is_store(relations, sets, work, true) {
         nodes::clear(work);
         return crate::Answer::Declined(crate::Refusal::NotStore);
     }

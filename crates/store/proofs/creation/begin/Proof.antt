@@ -6,7 +6,7 @@ use native.Mathlib.Omega.{arith}
 use lib.ListN.{length, set as put}
 use borrow.Author.Needs.{needs}
 use Rattle.store.specs.Finishing.{cleared}
-use Rattle.store.proofs.Rooms.{part-ends}
+use Rattle.judging.proofs.Rooms.{part-ends}
 use Rattle.store.proofs.Writing.{cleared-by}
 use Rattle.store.proofs.creation.begin.Statement.{statement}
 use Rattle.store.proofs.creation.begin.Tie as tie

@@ -2,7 +2,7 @@
 use native.Mathlib.Omega.{arith}
 use borrow.Author.Needs.{needs}
 use Rattle.nodes.specs.Store.{set, rel}
-use Rattle.store.specs.Memory.{memories}
+use Rattle.judging.specs.Memory.{memories}
 use Rattle.store.proofs.Filling.{fill-within-sets, fill-within-relations, filled}
 use Rattle.store.proofs.creation.fill.Statement.{statement}
 use Rattle.store.proofs.creation.fill.Tie as tie

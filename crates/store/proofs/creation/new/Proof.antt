@@ -3,11 +3,11 @@ use mathlib.Core.Path.{refl, ap, _∙_, subst}
 use native.Mathlib.Omega.{arith}
 use lib.ListN.{length, replicate, length-set}
 use borrow.Author.Needs.{needs}
-use Rattle.store.specs.Memory.{memories}
+use Rattle.judging.specs.Memory.{memories}
 use Rattle.store.specs.Creating.{NewChecked}
 use Rattle.store.specs.declared.Check.the-variants.{Level}
 use Rattle.store.proofs.Creating.{begun-here, created-new}
-use Rattle.store.proofs.Whole.{still-clear}
+use Rattle.judging.proofs.Whole.{still-clear}
 use Rattle.store.proofs.creation.new.Statement.{statement}
 use Rattle.store.proofs.creation.new.Tie as tie
 

@@ -3,7 +3,7 @@ use mathlib.Core.Path.{refl}
 use native.Mathlib.Omega.{arith}
 use borrow.Author.Needs.{needs}
 use Rattle.nodes.specs.Store.{set, rel}
-use Rattle.store.specs.Memory.{memories}
+use Rattle.judging.specs.Memory.{memories}
 use Rattle.store.proofs.CallSteps.{adding-declined, adding-low, adding-within, adding-ran}
 use Rattle.store.proofs.ImageSteps.{image-adding}
 use Rattle.store.proofs.Running.{both-here, beside-here}

@@ -1,0 +1,133 @@
+// Whether two lent memories are a store: document 01's rules, node after node, each entering index and property words.
+ghost use mathlib.Core.Path.{_≡_};
+ghost use mathlib.Core.Bool.{Bool, true, false};
+ghost use mathlib.Core.List.{List};
+ghost use Prim.Native.Nat.{ℕ, _+_, _*_, _%_, _<_, _≤_};
+ghost use lib.ListN.{length, getD};
+ghost use Rattle.nodes.specs.Store.{Kind, arity, handle-of};
+ghost use Rattle.nodes.specs.WellFormed.{Even};
+ghost use Rattle.judging.specs.Memory.{memories};
+ghost use Rattle.judging.specs.Judging.{Tests, ChildrenFit, FitsNext, Judged, BothJudged, StoreJudged};
+
+mod room;
+
+// The handle of the node at place i; a child stands below it.
+fn handle_at(c: usize, i: usize) -> usize
+    requires { ⌜ i < 4096 ⌝ }
+    ensures { λ r. ⌜ ((K : Kind) → c ≡ arity K → r ≡ handle-of K 0 i) ⌝ }
+{
+    if c == 2 { 2 * (i + 1) } else { i + 2 }
+}
+
+// Whether each child of node i stands earlier, at level l.
+fn children_fit(nodes: &[u32], c: usize, k: u32, i: usize, l: u32) -> bool
+    requires { ⌜ (0 < c) × (c * i + c ≤ length (now nodes)) × (i < 4096) ⌝ }
+    ensures { λ r. ⌜ ChildrenFit (now (nodes .entry)) c k i l r ⌝ }
+{
+    let s = c * i;
+    let most = handle_at(c, i);
+    let mut d = 0;
+    while d < c {
+        let h = nodes[s + d];
+        if memory::wide(h) >= most {
+            return false;
+        }
+        if memory::words::level(nodes, c, k, h) != l {
+            return false;
+        }
+        d += 1;
+    }
+    true
+}
+
+// Whether a node with this first child may have it: a set's is even.
+fn first_even(c: usize, x0: u32) -> bool
+    ensures { λ r. ⌜ ((K : Kind) (x : List ℕ) → c ≡ arity K → getD x 0 0 ≡ x0 → Tests r (Even K x)) ⌝ }
+{
+    if c == 2 {
+        return x0 % 2 == 0;
+    }
+    true
+}
+
+// Whether node i may follow those before it.
+fn node_fits(nodes: &[u32], work: &[u32], c: usize, k: u32, i: usize) -> bool
+    requires { ⌜ (0 < c) × (c * i + c ≤ length (now nodes)) × (i < 4096) ⌝ }
+    ensures { λ r. ⌜ FitsNext (now (nodes .entry)) (now (work .entry)) c k i r ⌝ }
+{
+    let s = c * i;
+    let e = s + c;
+    let x0 = nodes[s];
+    if memory::wide(x0) >= handle_at(c, i) {
+        return false;
+    }
+    let l = memory::words::level(nodes, c, k, x0);
+    if l >= k {
+        return false;
+    }
+    if !children_fit(nodes, c, k, i, l) {
+        return false;
+    }
+    if !first_even(c, x0) {
+        return false;
+    }
+    let j = memory::index::find(nodes, work, i, &nodes[s..e]);
+    j == i
+}
+
+// Whether all n nodes keep the rules.
+fn nodes_fit(nodes: &[u32], work: &mut [u32], c: usize, k: u32, n: usize) -> bool
+    requires { ⌜ (0 < c) × (c * n ≤ length (now nodes)) × (n ≤ 4096) ⌝ }
+    ensures { λ r. ⌜ Judged c n k (now (nodes .entry)) (now (work .entry)) (now (work .exit)) r ⌝ }
+{
+    let mut i = 0;
+    while i < n {
+        if !node_fits(nodes, work, c, k, i) {
+            return false;
+        }
+        let s = c * i;
+        let e = s + c;
+        memory::words::note(work, &nodes[s..e], i);
+        memory::index::enter(nodes, work, c, i);
+        i += 1;
+    }
+    true
+}
+
+// Whether the nodes of both kinds keep the rules; the index is then of the second kind's.
+fn both_fit(
+    first: &[u32],
+    second: &[u32],
+    work: &mut [u32],
+    c1: usize,
+    n1: usize,
+    c2: usize,
+    n2: usize,
+    k: u32,
+) -> bool
+    requires { ⌜ (0 < c1) × (c1 * n1 ≤ length (now first)) × (n1 ≤ 4096) × (0 < c2) × (c2 * n2 ≤ length (now second)) × (n2 ≤ 4096) ⌝ }
+    ensures { λ r. ⌜ BothJudged c1 n1 c2 n2 k (now (first .entry)) (now (second .entry)) (now (work .entry)) (now (work .exit)) r ⌝ }
+{
+    if !nodes_fit(first, work, c1, k, n1) {
+        return false;
+    }
+    memory::index::empty(work);
+    nodes_fit(second, work, c2, k, n2)
+}
+
+// Whether both memories are a store; the index is then of the sets' nodes or of the relations'.
+pub fn is_store(relations: &[u32], sets: &[u32], work: &mut [u32], last: bool) -> bool
+    ensures { λ r. ⌜ StoreJudged (memories (now (relations .entry)) (now (sets .entry))) last (now (work .entry)) (now (work .exit)) r ⌝ }
+{
+    nodes::clear(work);
+    if !crate::room::heads_fit(relations, sets) {
+        return false;
+    }
+    let n = memory::wide(relations[1]);
+    let m = memory::wide(sets[0]);
+    if last {
+        both_fit(&relations[2..], &sets[1..], work, 4, n, 2, m, relations[0])
+    } else {
+        both_fit(&sets[1..], &relations[2..], work, 2, m, 4, n, relations[0])
+    }
+}

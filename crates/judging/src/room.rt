@@ -1,0 +1,54 @@
+// Whether a memory has its head, as many places as its count says, and zeros past the count.
+ghost use mathlib.Core.Path.{_≡_};
+ghost use Prim.Native.Nat.{ℕ, _+_, _-_, _<_, _≤_};
+ghost use lib.ListN.{length, getD};
+ghost use lib.Dec.{eqb};
+ghost use Rattle.nodes.specs.Store.{Kind, arity};
+ghost use Rattle.nodes.specs.Programs.{all-below};
+ghost use Rattle.judging.specs.Memory.{head, memories};
+ghost use Rattle.judging.specs.Judging.{Tests, HeadsFit};
+ghost use Rattle.judging.specs.Valid.{room?};
+
+// Whether the numbers from s to before e are zero.
+fn zeros(m: &[u32], s: usize, e: usize) -> bool
+    requires { ⌜ (s ≤ e) × (e ≤ length (now m)) ⌝ }
+    ensures { λ r. ⌜ r ≡ all-below (e - s) (λ j. eqb (getD (now (m .entry)) (s + j) 0) 0) ⌝ }
+{
+    let mut i = s;
+    while i < e {
+        if m[i] != 0 {
+            return false;
+        }
+        i += 1;
+    }
+    true
+}
+
+// Whether a memory whose nodes of c numbers begin at `start` has room for as many as it says.
+fn has_room(m: &[u32], start: usize, c: usize) -> bool
+    requires { ⌜ (0 < start) × (0 < c) ⌝ }
+    ensures { λ r. ⌜ ((K : Kind) → start ≡ head K → c ≡ arity K → r ≡ room? K (now (m .entry))) ⌝ }
+{
+    if m.len() < start {
+        return false;
+    }
+    let p = memory::places_of(m.len() - start, c);
+    let n = memory::wide(m[start - 1]);
+    if n > p {
+        return false;
+    }
+    zeros(m, start + c * n, start + c * p)
+}
+
+// Whether both memories have room for what they say, and at most 32 fields.
+pub(crate) fn heads_fit(relations: &[u32], sets: &[u32]) -> bool
+    ensures { λ r. ⌜ Tests r (HeadsFit (memories (now (relations .entry)) (now (sets .entry)))) ⌝ }
+{
+    if !has_room(relations, 2, 4) {
+        return false;
+    }
+    if !has_room(sets, 1, 2) {
+        return false;
+    }
+    relations[0] <= 32
+}
