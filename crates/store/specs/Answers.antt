@@ -3,7 +3,7 @@ use mathlib.Core.List.{List, [], _∷_}
 use mathlib.Core.Bool.{Bool, true, false}
 use Prim.Native.Nat.{ℕ}
 use Rattle.store.specs.declared.Refusal.{Refusal}
-use Rattle.store.specs.declared.Refusal.the-variants.{NotStore, NotHeld, LevelsDiffer, NoChildren, OutOfRange, UsedUp}
+use Rattle.store.specs.declared.Refusal.the-variants.{NotStore, NotHeld, LevelsDiffer, NoChildren, OutOfRange, UsedUp, TooLong}
 use Rattle.store.specs.declared.Answer.{Answer}
 use Rattle.store.specs.declared.Answer.the-variants.{Handle, Truth, SetNode, RelationNode, Declined}
 
@@ -15,6 +15,7 @@ number LevelsDiffer = 3
 number NoChildren = 4
 number OutOfRange = 5
 number UsedUp = 6
+number TooLong = 10
 
 -- the refusal's number, or 0
 abbrev pub refusal : Answer → ℕ

@@ -14,7 +14,7 @@ pub mod relation_reads;
 pub mod set_calls;
 pub mod set_reads;
 
-// Why a call is declined.
+// Why a call is declined. The last is of a policy's text alone.
 pub enum Refusal {
     NotStore,
     NotHeld,
@@ -22,6 +22,7 @@ pub enum Refusal {
     NoChildren,
     OutOfRange,
     UsedUp,
+    TooLong,
 }
 
 // What a call answers.
@@ -50,6 +51,7 @@ pub fn number_of(r: Refusal) -> u32
         Refusal::NoChildren => 4,
         Refusal::OutOfRange => 5,
         Refusal::UsedUp => 6,
+        Refusal::TooLong => 10,
     }
 }
 
