@@ -12,8 +12,8 @@ use Rattle.packet_store.specs.Packed.{packed, Answers, AnswersChildren}
 module _ (C : Call) (M M′ : Memories) (w w′ : List ℕ) (a : Answer) (r : ℕ) where
   pub answers : (told a M′ ≡ step C M) × (w′ ≡ replicate (length w) 0) → r ≡ packed a → Answers C M M′ w w′ r
   answers says pack = record {
-    answer = pack ∙ ap (λ (t : Told Memories). packed (t .answer)) (says .0);
-    state = ap (λ (t : Told Memories). t .state) (says .0);
+    answer = pack ∙ ap (λ (t : Told Answer Memories). packed (t .answer)) (says .0);
+    state = ap (λ (t : Told Answer Memories). t .state) (says .0);
     zeros = says .1;
   }
 
@@ -22,5 +22,5 @@ module _ (filled : Answer → List ℕ → List ℕ) (C : Call) (M : Memories) (
       → AnswersChildren filled C M w w′ c c′ r
   answers-children says fill pack = record {
     call = answers C M M w w′ a r says pack;
-    children = fill ∙ ap (λ (t : Told Memories). filled (t .answer) c) (says .0);
+    children = fill ∙ ap (λ (t : Told Answer Memories). filled (t .answer) c) (says .0);
   }

@@ -3,7 +3,8 @@ use mathlib.Core.Path.{_≡_, refl, sym, ap, _∙_, subst}
 use Rattle.nodes.specs.Store.{Kind, set, rel}
 use Rattle.nodes.specs.WellFormed.{Extends}
 use Rattle.store.specs.Calls.{Call, new-store, set-call, set-read, relation-call, relation-read, image-call, filter-call, path-read, step}
-use Rattle.store.specs.Lists.{plain-store, NewRefused, Matches}
+use Rattle.store.specs.Lists.{NewRefused, Matches}
+use Rattle.store.specs.PlainStore.{plain-store}
 use Rattle.judging.specs.Memory.{Memories, memories, fields, decode, encode}
 use Rattle.judging.specs.Valid.{IsStore}
 use Rattle.store.proofs.OneCall.{call-right}

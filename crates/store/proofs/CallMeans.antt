@@ -51,7 +51,7 @@ not-gives e = subst Runs e tt
 module _ (v : ℕ → Store → Verdict) (M : Memories) (s : IsStore M) (Q : Store → ℕ → Type 0) (h : ℕ)
     (never : (a : Answer) → v (fields M) (decode M) ≡ gives a → ⊥)
     (does : (p : Prog) → v (fields M) (decode M) ≡ runs p → Does (fields M) (decode M) p Q) where
-  outcome : Verdict → Told Memories
+  outcome : Verdict → Told Answer Memories
   outcome u = concludes (set-places M) (rel-places M) u (decode M) M (λ S. encode (fields M) S M)
 
   by-run : (p : Prog) → v (fields M) (decode M) ≡ runs p → outcome (runs p) .answer ≡ Handle h → Q (decode (outcome (runs p) .state)) h

@@ -5,7 +5,8 @@ use lib.ListN.{length}
 use Rattle.nodes.specs.Store.{Kind, set, rel, Store, nodes}
 use Rattle.nodes.specs.WellFormed.{WellFormed}
 use Rattle.nodes.proofs.Canonical.{formed-sized}
-use Rattle.store.specs.Lists.{Plain, plain-store, Matches}
+use Rattle.store.specs.Lists.{Matches}
+use Rattle.store.specs.PlainStore.{Plain, plain-store}
 use Rattle.judging.specs.Memory.{Memories, memory, head, count, places-in, decode, write, encode}
 use Rattle.store.proofs.Encoding.{write-length, heads, encode-memory, encode-fields, Space, decode-encode, encode-places, encode-store, encode-encode}
 

@@ -11,9 +11,11 @@ use Rattle.nodes.specs.Store.{Kind, set, rel, pick}
 use Rattle.nodes.proofs.Bools.{and-T, by-test}
 use Rattle.nodes.proofs.New.{new-does}
 use Rattle.store.specs.Calls.{new-store, set-places, rel-places, heads?, step}
-use Rattle.store.specs.Lists.{begun, Matches}
+use Rattle.store.specs.Lists.{Matches}
+use Rattle.store.specs.PlainStore.{begun}
 use Rattle.judging.specs.Memory.{Memories, memory, head, encode}
 use Rattle.store.specs.Outcome.{runs, provided, Told, told, concludes}
+use Rattle.store.specs.declared.Answer.{Answer}
 use Rattle.store.specs.declared.Answer.the-variants.{Handle, Declined}
 use Rattle.store.specs.declared.Refusal.the-variants.{NotStore, OutOfRange, UsedUp}
 use Rattle.store.proofs.Matching.{matches-written}
@@ -28,7 +30,7 @@ module _ (k : ℕ) (M : Memories) (h : ℕ) where
   abbrev made : Ran
   made = run (new k) blank
 
-  abbrev Begins : Told Memories → Type 0
+  abbrev Begins : Told Answer Memories → Type 0
   Begins t = t .answer ≡ Handle h → (t .answer ≡ Handle (made .value)) × Matches M (t .state) (begun k)
 
   accepted : (b c : Bool) → leb k 32 ≡ b → heads? M ≡ c

@@ -20,7 +20,8 @@ use Rattle.nodes.proofs.Settle.{run-ext}
 use Rattle.store.specs.Calls.{Call, new-store, set-call, set-read, relation-call, relation-read, image-call, filter-call, path-read}
 use Rattle.store.specs.Calls.{set-places, rel-places, on-store, heads?, step}
 use Rattle.store.specs.ImageCalls.{image-verdict, filter-verdict, path-verdict}
-use Rattle.store.specs.Lists.{Plain, plain-store, on-lists, plain-step, Refused, Matches, Alike, Grown, CallRight}
+use Rattle.store.specs.Lists.{Refused, Matches, Alike, Grown, store-calls, CallRight}
+use Rattle.store.specs.PlainStore.{Plain, plain-store, on-lists, plain-step}
 use Rattle.judging.specs.Memory.{Memories, memory, head, fields, decode, encode}
 use Rattle.store.specs.Outcome.{Verdict, declines, gives, runs, provided, told, concludes}
 use Rattle.store.specs.RelationCalls.{relation-verdict, relation-read-verdict}
@@ -152,13 +153,13 @@ module _ {M₀ M : Memories} {P : Plain} (A : Matches M₀ M P) where
       (leb→le k 32 (subst T (sym (t .0)) tt), subst (λ p. WellFormed k (run p blank .store)) (ap program-in (t .1)) (new-does k .after .formed))))
 
   -- a call whose verdict on a store is v
-  pub verdict-right : (c : Call) (v : ℕ → Store → Verdict) → Sound v → step c M ≡ on-store v M → plain-step m n c P ≡ on-lists m n v P → CallRight M₀ M P c
+  pub verdict-right : (c : Call) (v : ℕ → Store → Verdict) → Sound v → step c M ≡ on-store v M → plain-step m n c P ≡ on-lists m n v P → CallRight store-calls M₀ M P c
   verdict-right c v s e f = record {
     alike = subst (λ t. Alike M₀ t (plain-step m n c P)) (sym e) (subst (Alike M₀ (on-store v M)) (sym f) (verdict-alike v s));
     grown = λ r. subst (λ u. Grown P (u .state)) (sym f) (verdict-grown m n v P);
   }
 
-  new-right : (k : ℕ) → CallRight M₀ M P (new-store k)
+  new-right : (k : ℕ) → CallRight store-calls M₀ M P (new-store k)
   unfolding plain-step
   new-right k = record {
     alike = new-alike k;
@@ -167,7 +168,7 @@ module _ {M₀ M : Memories} {P : Plain} (A : Matches M₀ M P) where
   }
 
   -- THE LAW FOR ONE CALL
-  pub call-right : (c : Call) → CallRight M₀ M P c
+  pub call-right : (c : Call) → CallRight store-calls M₀ M P c
   unfolding step plain-step
   call-right (new-store k) = new-right k
   call-right (set-call c) = verdict-right (set-call c) (set-verdict c) (set-sound c) refl refl

@@ -51,7 +51,7 @@ tells-by P (runs p) refused goes = goes (runs p) tt refl
 
 -- so a call on a store answers with P, and leaves the memories
 module _ (v : ℕ → Store → Verdict) (M : Memories) (s : IsStore M) (P : Answer → Type 0) (t : Tells P (v (fields M) (decode M))) where
-  outcome : Verdict → Told Memories
+  outcome : Verdict → Told Answer Memories
   outcome u = concludes (set-places M) (rel-places M) u (decode M) M (λ S. encode (fields M) S M)
 
   by-verdict : (u : Verdict) → Tells P u → P (outcome u .answer) × (outcome u .state ≡ M)

@@ -15,7 +15,8 @@ use Rattle.nodes.specs.WellFormed.{Held}
 use Rattle.nodes.proofs.Bools.{by-test, on-bits}
 use Rattle.nodes.proofs.Bounded.{fits-places-iff}
 use Rattle.store.specs.Calls.{Call, new-store, set-call, set-places, rel-places, step}
-use Rattle.store.specs.Lists.{Plain, plain-store, on-lists, plain-step, begun, in-turn, plain-steps, Matches, Lasts, on-memories}
+use Rattle.store.specs.Lists.{in-turn, plain-steps, Matches, Lasts, store-calls, after-new}
+use Rattle.store.specs.PlainStore.{Plain, plain-store, on-lists, plain-step, begun}
 use Rattle.judging.specs.Memory.{Memories, memories, decode}
 use Rattle.store.specs.Outcome.{Verdict, runs, provided, told, concludes}
 use Rattle.store.specs.declared.Answer.the-variants.{Handle, Declined}
@@ -51,11 +52,11 @@ accepted : step (new-store 1) lent .answer ≡ Handle 4
 unfolding step concludes provided run new constant identity-at-depth get place having mk-store mk-handle
 accepted = refl
 
-sets-tested : plain-steps 2 3 tested (begun 1) .state .lists .sets ≡ (0 ∷ 0 ∷ []) ∷ (0 ∷ 1 ∷ []) ∷ []
+sets-tested : plain-steps store-calls 2 3 tested (begun 1) .state .lists .sets ≡ (0 ∷ 0 ∷ []) ∷ (0 ∷ 1 ∷ []) ∷ []
 unfolding in-turn plain-step on-lists concludes provided run new constant identity-at-depth raise test get place having mk-store mk-handle
 sets-tested = refl
 
-sets-renewed : plain-steps 2 3 (tested ++ renewed) (begun 1) .state .lists .sets ≡ (0 ∷ 0 ∷ []) ∷ []
+sets-renewed : plain-steps store-calls 2 3 (tested ++ renewed) (begun 1) .state .lists .sets ≡ (0 ∷ 0 ∷ []) ∷ []
 unfolding in-turn plain-step on-lists concludes provided run new constant identity-at-depth raise test get place having mk-store mk-handle
 sets-renewed = refl
 
@@ -70,7 +71,7 @@ held-then S e = record {
 held-no-more : (S : Store) → S .sets ≡ (0 ∷ 0 ∷ []) ∷ [] → ¬ Held set S 1 4
 held-no-more S e A = let h = rw e at (A .there) in omega arith
 
-pub renewed-forgets : ¬ Lasts (decode (on-memories 1 lent tested .state)) (decode (on-memories 1 lent (tested ++ renewed) .state))
+pub renewed-forgets : ¬ Lasts (decode (after-new store-calls 1 lent tested .state)) (decode (after-new store-calls 1 lent (tested ++ renewed) .state))
 renewed-forgets L =
     let right = list-right 1 lent 4 accepted in
     held-no-more _ (ap (λ S. S .sets) (right (tested ++ renewed) .matches .lists) ∙ sets-renewed)

@@ -12,6 +12,7 @@ use Rattle.store.specs.SetCalls.{set-verdict, set-read-verdict}
 use Rattle.store.specs.RelationCalls.{relation-verdict, relation-read-verdict}
 use Rattle.store.specs.ImageCalls.{image-verdict, filter-verdict, path-verdict}
 use Rattle.store.specs.declared.Refusal.the-variants.{NotStore, OutOfRange}
+use Rattle.store.specs.declared.Answer.{Answer}
 use Rattle.store.specs.declared.set_calls.SetCall.{SetCall}
 use Rattle.store.specs.declared.set_reads.SetRead.{SetRead}
 use Rattle.store.specs.declared.image_calls.ImageCall.{ImageCall}
@@ -37,7 +38,7 @@ abbrev pub rel-places : Memories → ℕ
 rel-places M = places-in rel (M .relations)
 
 -- 01: "1 not a store" covers both memories and comes first
-unfoldable pub on-store : (ℕ → Store → Verdict) → Memories → Told Memories
+unfoldable pub on-store : (ℕ → Store → Verdict) → Memories → Told Answer Memories
 on-store v M = concludes (set-places M) (rel-places M) (provided NotStore (store? M) (v (fields M) (decode M))) (decode M) M (λ S. encode (fields M) S M)
 
 -- 01, `new`: "1 if relation memory has fewer than 2 numbers or set memory none"
@@ -45,7 +46,7 @@ abbrev pub heads? : Memories → Bool
 heads? M = leb (head rel) (length (M .relations)) && leb (head set) (length (M .sets))
 
 -- the answer of a call on two memories, and the memories after it
-unfoldable pub step : Call → Memories → Told Memories
+unfoldable pub step : Call → Memories → Told Answer Memories
 step (new-store k) M =
     concludes (set-places M) (rel-places M) (provided OutOfRange (leb k 32) (provided NotStore (heads? M) (runs (new k)))) blank M (λ S. encode k S M)
 step (set-call c) M = on-store (set-verdict c) M

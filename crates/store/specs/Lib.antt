@@ -7,6 +7,7 @@ pub mod Calls
 pub mod Meanings
 pub mod ReadMeanings
 pub mod ImageMeanings
+pub mod PlainStore
 pub mod Lists
 pub mod Checking
 pub mod SetChecking

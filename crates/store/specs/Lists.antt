@@ -3,51 +3,19 @@ use mathlib.Core.Path.{_≡_}
 use mathlib.Core.List.{List, [], _∷_, _++_}
 use Prim.Native.Nat.{ℕ}
 use lib.ListN.{length}
-use lib.Dec.{leb}
 use Rattle.nodes.specs.Images.{blank, new}
 use Rattle.nodes.specs.Packets.{Digits, walk}
 use Rattle.nodes.specs.Programs.{run}
 use Rattle.nodes.specs.Store.{Kind, Store}
 use Rattle.nodes.specs.WellFormed.{Held, Extends}
-use Rattle.store.specs.Calls.{Call, new-store, set-call, set-read, relation-call, relation-read, image-call, filter-call, path-read}
-use Rattle.store.specs.Calls.{set-places, rel-places, step}
-use Rattle.store.specs.ImageCalls.{image-verdict, filter-verdict, path-verdict}
 use Rattle.judging.specs.Memory.{Memories, memory, fields, places-in, decode, encode}
-use Rattle.store.specs.Outcome.{Verdict, runs, provided, Told, concludes}
-use Rattle.store.specs.RelationCalls.{relation-verdict, relation-read-verdict}
-use Rattle.store.specs.SetCalls.{set-verdict, set-read-verdict}
 use Rattle.judging.specs.Valid.{IsStore}
+use Rattle.store.specs.Calls.{Call, new-store, set-places, rel-places, step}
+use Rattle.store.specs.Outcome.{Told}
+use Rattle.store.specs.PlainStore.{Plain, plain-step, begun}
 use Rattle.store.specs.declared.Answer.{Answer}
 use Rattle.store.specs.declared.Answer.the-variants.{Handle, Declined}
 use Rattle.store.specs.declared.Refusal.{Refusal}
-use Rattle.store.specs.declared.Refusal.the-variants.{OutOfRange}
-
--- THE PLAIN STORE. 01: "k and two lists of nodes, one of each kind, without limit"
-pub record Plain : Type 0 where
-  pub width : ℕ
-  pub lists : Store
-
-abbrev pub plain-store : ℕ → Store → Plain
-plain-store k S = record { width = k; lists = S }
-
--- a call whose verdict is v, m places being there for sets and n for relations
-unfoldable pub on-lists : ℕ → ℕ → (ℕ → Store → Verdict) → Plain → Told Plain
-on-lists m n v P = concludes m n (v (P .width) (P .lists)) (P .lists) P (plain-store (P .width))
-
--- 01: "It is fed the calls' arguments and both numbers of places, no answers"; "`new(k)` makes its 3k and k nodes .. on copies that begin empty"
-unfoldable pub plain-step : ℕ → ℕ → Call → Plain → Told Plain
-plain-step m n (new-store k) P = concludes m n (provided OutOfRange (leb k 32) (runs (new k))) blank P (plain-store k)
-plain-step m n (set-call c) P = on-lists m n (set-verdict c) P
-plain-step m n (set-read c) P = on-lists m n (set-read-verdict c) P
-plain-step m n (relation-call c) P = on-lists m n (relation-verdict c) P
-plain-step m n (relation-read c) P = on-lists m n (relation-read-verdict c) P
-plain-step m n (image-call c) P = on-lists m n (image-verdict c) P
-plain-step m n (filter-call c) P = on-lists m n (filter-verdict c) P
-plain-step m n (path-read c) P = on-lists m n (path-verdict c) P
-
--- as `new k` leaves it: 01, "In demand 3's list they begin with `new`"
-abbrev pub begun : ℕ → Plain
-begun k = plain-store k (run (new k) blank .store)
 
 -- LISTS of calls of any type C on any state X: the answers in order, and what the last call leaves;
 -- `answer` and `next` say what a call answers and what it leaves. 01: "Each is lent the same two slices as the call before left them"
@@ -64,18 +32,18 @@ unfoldable pub each-call : {C X : Type 0} → (C → X → X) → (C → X → T
 each-call next Q [] x = Unit {0}
 each-call next Q (c ∷ cs) x = Q c x × each-call next Q cs (next c x)
 
--- on the memories, and on the plain store
-abbrev pub answer-of : {X : Type 0} → (Call → X → Told X) → Call → X → Answer
+-- what calls of type C come to, with answers of type A: on the memories; on the plain store, with m places for sets and n for relations;
+-- and when a call goes on with the store that is there
+pub record Calling (C A : Type 0) : Type 1 where
+  pub on-memories : C → Memories → Told A Memories
+  pub on-plain : ℕ → ℕ → C → Plain → Told A Plain
+  pub GoesOn : C → Memories → Type 0
+
+abbrev pub answer-of : {C A X : Type 0} → (C → X → Told A X) → C → X → A
 answer-of f c x = f c x .answer
 
-abbrev pub left-by : {X : Type 0} → (Call → X → Told X) → Call → X → X
+abbrev pub left-by : {C A X : Type 0} → (C → X → Told A X) → C → X → X
 left-by f c x = f c x .state
-
-abbrev pub steps : List Call → Memories → Listed Answer Memories
-steps cs M = in-turn (answer-of step) (left-by step) cs M
-
-abbrev pub plain-steps : ℕ → ℕ → List Call → Plain → Listed Answer Plain
-plain-steps m n cs P = in-turn (answer-of (plain-step m n)) (left-by (plain-step m n)) cs P
 
 -- 01, demand 3's list: "any `new` that is refused"
 pub record Refused (a : Answer) : Type 0 where
@@ -85,8 +53,9 @@ pub record Refused (a : Answer) : Type 0 where
 abbrev pub NewRefused : Call → Memories → Type 0
 NewRefused c M = (k : ℕ) → c ≡ new-store k → Refused (step c M .answer)
 
-abbrev pub NewsRefused : List Call → Memories → Type 0
-NewsRefused cs M = each-call (left-by step) NewRefused cs M
+-- the calls of this crate
+abbrev pub store-calls : Calling Call Answer
+store-calls = record { on-memories = step; on-plain = plain-step; GoesOn = NewRefused }
 
 -- WHAT IS CLAIMED. M, slices as long as M₀, are a store and hold the plain store P; all else in them is as in M₀:
 -- 01, "numbers beyond the last place are never touched"
@@ -99,7 +68,7 @@ pub record Matches (M₀ M : Memories) (P : Plain) : Type 0 where
   pub written : M ≡ encode (P .width) (P .lists) M₀
 
 -- the same answer, and what is left matches
-pub record Alike (M₀ : Memories) (t : Told Memories) (u : Told Plain) : Type 0 where
+pub record Alike {A : Type 0} (M₀ : Memories) (t : Told A Memories) (u : Told A Plain) : Type 0 where
   pub answer : t .answer ≡ u .answer
   pub matches : Matches M₀ (t .state) (u .state)
 
@@ -108,11 +77,6 @@ pub record Grown (P P′ : Plain) : Type 0 where
   pub width : P′ .width ≡ P .width
   pub lists : Extends (P .lists) (P′ .lists)
 
--- one call on memories M that match P, written over M₀
-pub record CallRight (M₀ M : Memories) (P : Plain) (c : Call) : Type 0 where
-  pub alike : Alike M₀ (step c M) (plain-step (set-places M₀) (rel-places M₀) c P)
-  pub grown : NewRefused c M → Grown P (plain-step (set-places M₀) (rel-places M₀) c P .state)
-
 -- nodes were only added: a handle held in S is held in S′ at its level, and its walks end as they did, so that
 -- a set has the same packets and a relation the same pairs
 pub record Lasts (S S′ : Store) : Type 0 where
@@ -120,21 +84,37 @@ pub record Lasts (S S′ : Store) : Type 0 where
   pub held : (K : Kind) (l h : ℕ) → Held K S l h → Held K S′ l h
   pub walks : (K : Kind) (l h : ℕ) → Held K S l h → (ds : List ℕ) → Digits K l ds → walk K S′ h ds ≡ walk K S h ds
 
--- a list of calls after `new k` on the memories M₀, and the same calls on the plain store
-module _ (k : ℕ) (M₀ : Memories) (cs : List Call) where
-  abbrev pub on-memories : Listed Answer Memories
-  on-memories = steps cs (step (new-store k) M₀ .state)
+module _ {C A : Type 0} (Z : Calling C A) where
+  abbrev pub steps : List C → Memories → Listed A Memories
+  steps cs M = in-turn (answer-of (Z .on-memories)) (left-by (Z .on-memories)) cs M
 
-  abbrev pub on-plain : Listed Answer Plain
-  on-plain = plain-steps (set-places M₀) (rel-places M₀) cs (begun k)
+  abbrev pub plain-steps : ℕ → ℕ → List C → Plain → Listed A Plain
+  plain-steps m n cs P = in-turn (answer-of (Z .on-plain m n)) (left-by (Z .on-plain m n)) cs P
 
--- what is claimed of it, where that `new` was accepted
-pub record ListRight (k : ℕ) (M₀ : Memories) (cs : List Call) : Type 0 where
-  pub new-answer : step (new-store k) M₀ .answer ≡ Handle (run (new k) blank .value)
-  -- the same answers, one by one; the memories are a store with the same lists, and untouched where no place is
-  pub answers : on-memories k M₀ cs .answers ≡ on-plain k M₀ cs .answers
-  pub matches : Matches M₀ (on-memories k M₀ cs .state) (on-plain k M₀ cs .state)
-  -- in demand 3's lists the number of fields stays, and what was held after the first calls lasts to the end
-  pub width : NewsRefused cs (step (new-store k) M₀ .state) → fields (on-memories k M₀ cs .state) ≡ k
-  pub lasts : NewsRefused cs (step (new-store k) M₀ .state) → (before later : List Call) → cs ≡ before ++ later
-      → Lasts (decode (on-memories k M₀ before .state)) (decode (on-memories k M₀ cs .state))
+  -- no call of the list starts a new store
+  abbrev pub AllGoOn : List C → Memories → Type 0
+  AllGoOn cs M = each-call (left-by (Z .on-memories)) (Z .GoesOn) cs M
+
+  -- one call on memories M that match P, written over M₀
+  pub record CallRight (M₀ M : Memories) (P : Plain) (c : C) : Type 0 where
+    pub alike : Alike M₀ (Z .on-memories c M) (Z .on-plain (set-places M₀) (rel-places M₀) c P)
+    pub grown : Z .GoesOn c M → Grown P (Z .on-plain (set-places M₀) (rel-places M₀) c P .state)
+
+  -- a list of calls after `new k` on the memories M₀, and the same calls on the plain store
+  module _ (k : ℕ) (M₀ : Memories) (cs : List C) where
+    abbrev pub after-new : Listed A Memories
+    after-new = steps cs (step (new-store k) M₀ .state)
+
+    abbrev pub beside-it : Listed A Plain
+    beside-it = plain-steps (set-places M₀) (rel-places M₀) cs (begun k)
+
+  -- what is claimed of it, where that `new` was accepted
+  pub record ListRight (k : ℕ) (M₀ : Memories) (cs : List C) : Type 0 where
+    pub new-answer : step (new-store k) M₀ .answer ≡ Handle (run (new k) blank .value)
+    -- the same answers, one by one; the memories are a store with the same lists, and untouched where no place is
+    pub answers : after-new k M₀ cs .answers ≡ beside-it k M₀ cs .answers
+    pub matches : Matches M₀ (after-new k M₀ cs .state) (beside-it k M₀ cs .state)
+    -- in demand 3's lists the number of fields stays, and what was held after the first calls lasts to the end
+    pub width : AllGoOn cs (step (new-store k) M₀ .state) → fields (after-new k M₀ cs .state) ≡ k
+    pub lasts : AllGoOn cs (step (new-store k) M₀ .state) → (before later : List C) → cs ≡ before ++ later
+        → Lasts (decode (after-new k M₀ before .state)) (decode (after-new k M₀ cs .state))

@@ -49,16 +49,16 @@ abbrev pub yes-no : Prog → Store → Answer
 yes-no p S = Truth (eqb (run p S .value) 1)
 
 -- an answer, and what the store or the memories are afterwards
-pub record Told (X : Type 0) : Type 0 where
-  pub answer : Answer
+pub record Told (A X : Type 0) : Type 0 where
+  pub answer : A
   pub state : X
 
-abbrev pub told : {X : Type 0} → Answer → X → Told X
+abbrev pub told : {A X : Type 0} → A → X → Told A X
 told a x = record { answer = a; state = x }
 
 -- m places for sets and n for relations. 01: "6 is returned exactly when the call .. would end with more nodes of either kind
 -- than there are places"; a refusal leaves x as it was
-unfoldable pub concludes : {X : Type 0} → ℕ → ℕ → Verdict → Store → X → (Store → X) → Told X
+unfoldable pub concludes : {X : Type 0} → ℕ → ℕ → Verdict → Store → X → (Store → X) → Told Answer X
 concludes m n (declines r) S x put = told (Declined r) x
 concludes m n (gives a) S x put = told a x
 concludes m n (runs p) S x put = pick (fits-places m n (run p S .store)) (told (Handle (run p S .value)) (put (run p S .store))) (told (Declined UsedUp) x)
