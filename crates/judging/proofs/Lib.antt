@@ -4,3 +4,4 @@ pub mod Fitting
 pub mod Rooms
 pub mod Both
 pub mod Whole
+pub mod Clearing

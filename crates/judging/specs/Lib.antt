@@ -1,3 +1,4 @@
 pub mod Memory
 pub mod Valid
 pub mod Judging
+pub mod Commit

@@ -9,6 +9,7 @@ ghost use Rattle.nodes.specs.WellFormed.{Even};
 ghost use Rattle.judging.specs.Memory.{memories};
 ghost use Rattle.judging.specs.Judging.{Tests, ChildrenFit, FitsNext, Judged, BothJudged, StoreJudged};
 
+pub mod commit;
 mod room;
 
 // The handle of the node at place i; a child stands below it.

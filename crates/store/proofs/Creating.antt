@@ -15,7 +15,7 @@ use Rattle.nodes.specs.Images.{blank, new}
 use Rattle.nodes.proofs.New.{blank-formed, new-counts}
 use Rattle.store.specs.Calls.{new-store, set-places, rel-places, heads?, step}
 use Rattle.store.specs.Creating.{NewChecked, Begun, Created}
-use Rattle.store.specs.Finishing.{cleared}
+use Rattle.judging.specs.Commit.{cleared}
 use Rattle.judging.specs.Memory.{Memories, memories, memory, head, fields, places-in, decode, flat, write, encode}
 use Rattle.store.specs.Outcome.{Verdict, declines, runs, provided, told, concludes}
 use Rattle.store.specs.declared.Answer.{Answer}

@@ -7,11 +7,11 @@ use native.Mathlib.Nat.{mul-zero, mul-le-mul-left}
 use native.Mathlib.Numerals.{add-one}
 use lib.ListN.{length, getD, take, drop, replicate, length-append, length-drop, length-replicate, getD-replicate, take-append-drop, drop-of-length-le}
 use lib.Seq.{take-add, drop-drop, getD-take, getD-drop, ext-getD, length-take-le, take-append-add, drop-append-add}
-use borrow.Rule.Slice.PartMut.{midOf, putMid, mid-len}
+use borrow.Rule.Slice.PartMut.{putMid}
 use Rattle.nodes.specs.Store.{Kind, set, rel, arity, Nodes}
 use Rattle.memory.specs.Rows.{row, rows, places}
 use Rattle.memory.proofs.Rows.{rows-snoc, rows-length, mul-add-one, places-fit}
-use Rattle.store.specs.Finishing.{cleared}
+use Rattle.judging.specs.Commit.{cleared}
 use Rattle.judging.specs.Memory.{head, count, body, places-in, nodes-in, flat, write}
 use Rattle.judging.specs.Valid.{Room}
 
@@ -97,10 +97,6 @@ pub tail-put : (a : ℕ) (m b : List ℕ) → putMid a (length m - a) m b ≡ ta
 tail-put a m b =
     let e : drop (length m - a) (drop a m) ≡ [] = drop-of-length-le (drop a m) {i = length m - a} (omega (arith, length-drop a m)) in
     rw (e, append-nil b)
-
--- what `clear` leaves of a part
-pub cleared-by : (s e : ℕ) (m z : List ℕ) → e ≤ length m → z ≡ replicate (length (midOf s (e - s) m)) 0 → putMid s (e - s) m z ≡ cleared s e m
-cleared-by s e m z h q = ap (λ (z : List ℕ). putMid s (e - s) m z) (q ∙ ap (λ l. replicate l 0) (mid-len s e m h))
 
 -- numbers that were zero, made zero again
 pub cleared-back : (m m₁ : List ℕ) (s e : ℕ) → s ≤ e → e ≤ length m → ((j : ℕ) → j < e - s → getD m (s + j) 0 ≡ 0) → take s m₁ ≡ take s m

@@ -1,18 +1,14 @@
--- What is done to the memory of one kind once a program has run on its nodes.
+-- What a call answers once a program has run on the nodes of one kind, and what is done to their memory.
 use mathlib.Core.Path.{_≡_}
 use mathlib.Core.Bool.{true, false}
 use mathlib.Core.List.{List}
 use Prim.Native.Nat.{ℕ, _+_, _-_, _*_}
-use lib.ListN.{set as put, replicate}
-use borrow.Rule.Slice.PartMut.{putMid}
+use lib.ListN.{set as put}
 use Rattle.memory.specs.declared.Arena.{Arena}
+use Rattle.judging.specs.Commit.{cleared}
 use Rattle.store.specs.declared.Refusal.the-variants.{UsedUp}
 use Rattle.store.specs.declared.Answer.{Answer}
 use Rattle.store.specs.declared.Answer.the-variants.{Handle, Declined}
-
--- the numbers from s up to e made zero
-abbrev pub cleared : ℕ → ℕ → List ℕ → List ℕ
-cleared s e m = putMid s (e - s) m (replicate (e - s) 0)
 
 -- the count is written where all fitted, else the places from n on that were written are zero again; nodes of c numbers begin at `start`
 pub record Finished (m m′ : List ℕ) (start c n : ℕ) (r : Arena) (a : Answer) : Type 0 where

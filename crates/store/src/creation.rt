@@ -8,7 +8,7 @@ ghost use Rattle.memory.specs.Arena.{arena, Performs};
 ghost use Rattle.judging.specs.Memory.{memories};
 ghost use Rattle.store.specs.Outcome.{told};
 ghost use Rattle.store.specs.Calls.{new-store, step};
-ghost use Rattle.store.specs.Finishing.{cleared};
+ghost use Rattle.judging.specs.Commit.{cleared};
 ghost use Rattle.store.specs.Creating.{set-constants, relation-constants, NewChecked, Begun, Created};
 
 // Whether a store of k fields fits into memories of these lengths: 3k relation nodes and k set nodes.

@@ -4,7 +4,7 @@ ghost use Prim.Native.Nat.{ℕ, _+_, _*_, _<_, _≤_};
 ghost use lib.ListN.{length};
 ghost use Rattle.store.specs.Finishing.{Finished};
 
-// The count is written, or the nodes are again as they were: n nodes of c numbers, which begin at `start`.
+// The handle, or 6 and the nodes are again as they were: n nodes of c numbers, which begin at `start`.
 pub(crate) fn finish(
     memory: &mut [u32],
     start: usize,
@@ -15,13 +15,9 @@ pub(crate) fn finish(
     requires { ⌜ (0 < start) × (n ≤ r .n) × (r .n ≤ 4096) × (start + c * r .n ≤ length (now memory)) ⌝ }
     ensures { λ a. ⌜ Finished (now (memory .entry)) (now (memory .exit)) start c n r a ⌝ }
 {
-    let count = r.n;
+    judging::commit::commit(memory, start, c, n, r);
     if r.ok {
-        memory[start - 1] = count as u32;
         return crate::Answer::Handle(r.h);
     }
-    let s = start + c * n;
-    let e = start + c * count;
-    nodes::clear(&mut memory[s..e]);
     crate::Answer::Declined(crate::Refusal::UsedUp)
 }

@@ -5,9 +5,9 @@ use Prim.Native.Nat.{ℕ, _+_, _-_, _*_, _≤_}
 use native.Mathlib.Omega.{arith}
 use lib.ListN.{length, set as put}
 use borrow.Author.Needs.{needs}
-use Rattle.store.specs.Finishing.{cleared}
+use Rattle.judging.specs.Commit.{cleared}
 use Rattle.judging.proofs.Rooms.{part-ends}
-use Rattle.store.proofs.Writing.{cleared-by}
+use Rattle.judging.proofs.Clearing.{cleared-by}
 use Rattle.store.proofs.creation.begin.Statement.{statement}
 use Rattle.store.proofs.creation.begin.Tie as tie
 
