@@ -1,7 +1,7 @@
 //! Random lists of calls: after each call the answer and both memories are compared.
 
 use crate::case::{Case, Difference};
-use crate::lent::WorkLengths;
+use crate::lent::{Guard, WorkLengths};
 use crate::library;
 use crate::memory::lengths;
 use oracle::answer::{Answer, Refusal};
@@ -29,7 +29,7 @@ pub fn compare(seed: u64, count: usize, part: Part) -> Result<String, Difference
     let mut noise = Random::new(!seed);
     let mut work = WorkLengths::new();
     let mut store = empty_store();
-    let mut case = Case::noise(lengths(0, 0, (0, 0)), &mut noise);
+    let mut case = Case::noise(lengths(0, 0, (0, 0)), Guard::Words, &mut noise);
     case.encode(&store);
     for (number, call) in Draw::new(seed, part).take(count).enumerate() {
         let on_relations =
@@ -73,7 +73,8 @@ fn open(
     noise: &mut Random,
 ) -> Result<(), String> {
     let beyond = (noise.below(4) as usize, noise.below(2) as usize);
-    let mut fresh = Case::noise(lengths(places.0 as usize, places.1 as usize, beyond), noise);
+    let lengths = lengths(places.0 as usize, places.1 as usize, beyond);
+    let mut fresh = Case::noise(lengths, Guard::Words, noise);
     fresh.work = case.work;
     match Store::new(fields, places.0, places.1) {
         Ok(mut opened) => {
