@@ -1,0 +1,5 @@
+pub mod Stub
+pub mod TextOutcomes
+pub mod OneText
+pub mod AllCalls
+pub mod Demand3
