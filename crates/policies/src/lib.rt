@@ -35,8 +35,8 @@ pub enum PolicyAnswer {
 
 // A text within the rules: it is built, and its nodes are kept where they fit.
 fn built(relations: &mut [u32], sets: &[u32], work: &mut [u32], text: &[u8]) -> PolicyAnswer
-    requires { ⌜ Accepted rel (memories (now relations) (now sets)) (now work) ⌝ }
-    requires rules { ⌜ (short? (now text) ≡ true) × (reading (fields (memories (now relations) (now sets))) (now text) ≡ Policy) ⌝ }
+    requires { ⌜ Accepted rel (memories (now relations) (now sets)) (now work)
+        × (short? (now text) ≡ true) × (reading (fields (memories (now relations) (now sets))) (now text) ≡ Policy) ⌝ }
     ensures { λ r. ⌜ told r (memories (now (relations .exit)) (now (sets .entry)))
         ≡ policy-step (now (text .entry)) (memories (now (relations .entry)) (now (sets .entry))) ⌝ }
 {
