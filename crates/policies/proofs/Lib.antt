@@ -1,0 +1,4 @@
+pub mod Suffixes
+pub mod Chains
+pub mod Loops
+pub mod Atoms
