@@ -24,3 +24,6 @@ module _ (t : List ℕ) (at : ℕ) where
       empty : (x : List ℕ) → length x ≡ 0 → x ≡ []
       empty [] e = refl
       empty (a ∷ x) e = absurd (omega (arith, e))
+
+  pub past-end : length t ≤ at → getD t at 0 ≡ 0
+  past-end h = first-of (none-left h)

@@ -54,9 +54,11 @@ pub fn field(text: &[u8], at: usize) -> Number
         };
     }
     let ones = b - b'0';
+    let value = tens * 10 + ones;
+    let end = next + 1;
     Number {
-        value: tens * 10 + ones,
-        end: next + 1,
+        value: value,
+        end: end,
     }
 }
 

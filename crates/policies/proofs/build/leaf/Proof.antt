@@ -1,85 +1,35 @@
+-- `leaf` builds `0`, `1`, or what begins with none of `!`, `(`, `0` and `1`.
+use mathlib.Core.Path.{sym, _∙_}
 use borrow.Author.Needs.{needs}
+use Rattle.policies.proofs.Atoms.{zero-builds, one-builds, name-builds}
 use Rattle.policies.proofs.build.leaf.Statement.{statement}
 use Rattle.policies.proofs.build.leaf.Tie as tie
-use Rattle.policies.proofs.build.leaf.Reads as reads
-use Rattle.policies.proofs.build.leaf.Lts as lts
-use Rattle.policies.proofs.build.named.Reads as named-reads
-use Rattle.policies.proofs.items.byte.Reads as byte-reads
-use Rattle.policies.proofs.items.past.Reads as past-reads
-use Rattle.relations.proofs.one_at_depth.Reads as one-at-depth-reads
-use Rattle.relations.proofs.zero_at_depth.Reads as zero-at-depth-reads
 
--- src/build.rt:60:9
-byte-requires : tie.Need-byte-requires
-byte-requires c κs = search needs
-
--- src/build.rt:61:9
-past-requires : tie.Need-past-requires
-past-requires c κs = search needs
-
--- src/build.rt:63:13
-zero-at-depth-requires : tie.Need-zero-at-depth-requires
-zero-at-depth-requires c κs = search needs
-
--- src/build.rt:64:9
-same-length : tie.Need-same-length
-same-length c = search needs
-
--- src/build.rt:64:9
-same-length-2 : tie.Need-same-length-2
-same-length-2 c = search needs
-
--- src/build.rt:64:9
 returns : tie.Need-returns
-returns c = ?
+returns c = zero-builds (sym (c .before .before .before .before .before .before .before .before .before .byte .ensures .0) ∙ c .before .before .before .before .before .before .before .if1 .taken) (c .before .before .before .before .before .before .before .before .past .ensures) (c .before .before .before .before .zero-at-depth .ensures)
 
--- src/build.rt:70:13
-one-at-depth-requires : tie.Need-one-at-depth-requires
-one-at-depth-requires c κs = search needs
-
--- src/build.rt:71:9
-same-length-3 : tie.Need-same-length-3
-same-length-3 c = search needs
-
--- src/build.rt:71:9
-same-length-4 : tie.Need-same-length-4
-same-length-4 c = search needs
-
--- src/build.rt:71:9
 returns-2 : tie.Need-returns-2
-returns-2 c = ?
+returns-2 c = one-builds (sym (c .before .before .before .before .before .before .before .before .before .before .byte .ensures .0) ∙ c .before .before .before .before .before .before .before .if2 .taken) (c .before .before .before .before .before .before .before .before .before .past .ensures) (c .before .before .before .before .one-at-depth .ensures)
 
--- src/build.rt:76:5
-named-requires : tie.Need-named-requires
-named-requires c κs = search needs
-
--- src/build.rt:49:1
-same-length-5 : tie.Need-same-length-5
-same-length-5 c = search needs
-
--- src/build.rt:49:1
-same-length-6 : tie.Need-same-length-6
-same-length-6 c = search needs
-
--- src/build.rt:49:1
 returns-3 : tie.Need-returns-3
-returns-3 c = ?
+returns-3 c = let e = c .before .before .before .before .before .before .before .before .before .before .byte .ensures .0 in
+    name-builds (sym e) (λ x. c .before .before .before .before .before .before .before .before .before .before .before .before .before .before .pre .1 (sym e ∙ x)) (λ x. c .before .before .before .before .before .before .before .before .before .before .before .before .before .before .pre .2 (sym e ∙ x)) (c .before .before .before .before .before .before .before .before .if1 .left) (c .before .before .before .before .before .before .before .if2 .left) (c .before .before .before .before .before .before .before .before .before .past .ensures) (c .before .before .before .before .named .ensures)
 
 pub leaf-spec : {M : Type 1} → statement M
 leaf-spec =
     tie.close
     (tie.spec
-    byte-requires
-    past-requires
-    zero-at-depth-requires
-    same-length
-    same-length-2
+    (λ c κs. search needs)
+    (λ c κs. search needs)
+    (λ c κs. search needs)
+    (λ c. search needs)
+    (λ c. search needs)
     returns
-    one-at-depth-requires
-    same-length-3
-    same-length-4
+    (λ c κs. search needs)
+    (λ c. search needs)
+    (λ c. search needs)
     returns-2
-    named-requires
-    same-length-5
-    same-length-6
+    (λ c κs. search needs)
+    (λ c. search needs)
+    (λ c. search needs)
     returns-3)

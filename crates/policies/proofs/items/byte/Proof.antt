@@ -1,20 +1,13 @@
+-- `byte` gives the byte there; past the end the list's own default is 0.
+use mathlib.Core.Path.{sym}
+use native.Mathlib.Omega.{arith}
 use borrow.Author.Needs.{needs}
+use Rattle.policies.proofs.Suffixes.{past-end}
 use Rattle.policies.proofs.items.byte.Statement.{statement}
 use Rattle.policies.proofs.items.byte.Tie as tie
-use Rattle.policies.proofs.items.byte.Reads as reads
-use Rattle.policies.proofs.items.byte.Lts as lts
 
--- src/items.rt:19:16
-shared-slice-read-result : tie.Need-shared-slice-read-result
-shared-slice-read-result c = search needs
-
--- src/items.rt:19:9
-returns : tie.Need-returns
-returns c = search needs
-
--- src/items.rt:15:1
 returns-2 : tie.Need-returns-2
-returns-2 c = ?
+returns-2 c = let a = c .before .args in (sym (past-end (a .text .now) (a .at) (c .if1 .left)), λ h. absurd (omega (arith, h)))
 
 pub byte-spec : {M : Type 1} → statement M
-byte-spec = tie.close (tie.spec shared-slice-read-result returns returns-2)
+byte-spec = tie.close (tie.spec (λ c. search needs) (λ c. search needs) returns-2)

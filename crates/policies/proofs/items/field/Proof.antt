@@ -1,77 +1,69 @@
+-- `field` reads the number of the digits there: each return is one of the cases of `Digits`.
+use mathlib.Core.Path.{ap, subst}
+use Prim.Native.Nat.{_-_}
+use native.Mathlib.Omega.{arith}
 use borrow.Author.Needs.{needs}
+use borrow.Author.Tests.{not-true, not-false}
+use Rattle.policies.proofs.Digits.{Digit, is-digit, no-digit, reads-none, reads-one, reads-two}
 use Rattle.policies.proofs.items.field.Statement.{statement}
 use Rattle.policies.proofs.items.field.Tie as tie
-use Rattle.policies.proofs.items.field.Reads as reads
-use Rattle.policies.proofs.items.field.Lts as lts
-use Rattle.policies.proofs.items.byte.Reads as byte-reads
-use Rattle.texts.proofs.is_digit.Reads as is-digit-reads
 
--- src/items.rt:40:9
-byte-requires : tie.Need-byte-requires
-byte-requires c κs = search needs
-
--- src/items.rt:41:9
-is-digit-requires : tie.Need-is-digit-requires
-is-digit-requires c κs = search needs
-
--- src/items.rt:42:9
 returns : tie.Need-returns
-returns c = ?
+returns c =
+    let n = no-digit (c .before .before .byte .result) (c .before .is-digit .ensures) (not-true _ (c .if1 .taken)) in
+    reads-none (c .before .before .before .before .pre) (subst (λ b. ¬ Digit b) (c .before .before .byte .ensures .0) n)
 
--- src/items.rt:47:16
 sub-tens : tie.Need-sub-tens
-sub-tens c = ?
+sub-tens c = is-digit (c .before .before .byte .result) (c .before .is-digit .ensures) (not-false _ (c .if1 .left)) .0
 
--- src/items.rt:48:16
-add-next : tie.Need-add-next
-add-next c = search needs
-
--- src/items.rt:49:9
-byte-requires-2 : tie.Need-byte-requires-2
-byte-requires-2 c κs = search needs
-
--- src/items.rt:50:9
-is-digit-requires-2 : tie.Need-is-digit-requires-2
-is-digit-requires-2 c κs = search needs
-
--- src/items.rt:51:9
 returns-2 : tie.Need-returns-2
-returns-2 c = ?
+returns-2 c =
+    let b = c .before .before .before .before .before .byte in
+    let a = c .before .before .byte2 in
+    let d = is-digit (b .result) (c .before .before .before .before .is-digit .ensures) (not-false _ (c .before .before .before .if1 .left)) in
+    let n = no-digit (a .result) (c .before .is-digit2 .ensures) (not-true _ (c .if2 .taken)) in
+    let l = b .ensures .1 (omega (arith, d .0)) in
+    reads-one (omega (arith, l)) (ap (λ x. x - 48) (b .ensures .0)) (subst (λ b. ¬ Digit b) (a .ensures .0) n)
 
--- src/items.rt:56:16
 sub-ones : tie.Need-sub-ones
-sub-ones c = ?
+sub-ones c = is-digit (c .before .before .byte2 .result) (c .before .is-digit2 .ensures) (not-false _ (c .if2 .left)) .0
 
--- src/items.rt:58:16
-mul-t10 : tie.Need-mul-t10
-mul-t10 c = ?
+mul-value : tie.Need-mul-value
+mul-value c =
+    let b = c .before .before .before .before .before .byte in
+    let d = is-digit (b .result) (c .before .before .before .before .is-digit .ensures) (not-false _ (c .before .before .before .if1 .left)) in
+    omega (arith, d .0, d .1)
 
--- src/items.rt:58:16
-add-t11 : tie.Need-add-t11
-add-t11 c = ?
+add-value : tie.Need-add-value
+add-value c =
+    let b = c .before .before .before .before .before .byte in
+    let d = is-digit (b .result) (c .before .before .before .before .is-digit .ensures) (not-false _ (c .before .before .before .if1 .left)) in
+    let e = is-digit (c .before .before .byte2 .result) (c .before .is-digit2 .ensures) (not-false _ (c .if2 .left)) in
+    omega (arith, d .0, d .1, e .0, e .1)
 
--- src/items.rt:59:14
-add-t12 : tie.Need-add-t12
-add-t12 c = search needs
-
--- src/items.rt:36:1
 returns-3 : tie.Need-returns-3
-returns-3 c = ?
+returns-3 c =
+    let b = c .before .before .before .before .before .byte in
+    let a = c .before .before .byte2 in
+    let e = is-digit (a .result) (c .before .is-digit2 .ensures) (not-false _ (c .if2 .left)) in
+    let l = a .ensures .1 (omega (arith, e .0)) in
+    reads-two (omega (arith, l)) (let p = b .ensures .0 in let q = a .ensures .0 in cc)
+    (subst Digit (a .ensures .0) e)
 
 pub field-spec : {M : Type 1} → statement M
 field-spec =
     tie.close
     (tie.spec
-    byte-requires
-    is-digit-requires
+    (λ c κs. search needs)
+    (λ c κs. search needs)
     returns
     sub-tens
-    add-next
-    byte-requires-2
-    is-digit-requires-2
+    (λ c. search needs)
+    (λ c κs. search needs)
+    (λ c κs. search needs)
     returns-2
     sub-ones
-    mul-t10
-    add-t11
-    add-t12
+    mul-value
+    add-value
+    (λ c. search needs)
     returns-3)
