@@ -59,7 +59,7 @@ pub record Looping (G : Rank) (After : ℕ → Type 0) (b : ℕ) (St : ℕ → S
 
 module _ {G Item : Rank} {After Below : ℕ → Type 0} {b : ℕ} {St : ℕ → Step} (L : Looped G Item After Below b St) {k : ℕ} {t : List ℕ} {at : ℕ} {s : Arena}
     {m m′ w w′ : List ℕ} {r : Built} where
-  pub loop-starts : Builds Item Below k t at s m m′ w w′ r → Looping G After b St k t at s m m′ w w′ r
+  loop-starts : Builds Item Below k t at s m m′ w w′ r → Looping G After b St k t at s m m′ w w′ r
   loop-starts B = record {
     from = B .from;
     within = B .within;
@@ -69,7 +69,7 @@ module _ {G Item : Rank} {After Below : ℕ → Type 0} {b : ℕ} {St : ℕ → 
         record { so-far = a .begin; ahead = a .steps; chain = a .chain; stands = i .stands; performs = i .performs };
   }
 
-  pub loop-ends : Looping G After b St k t at s m m′ w w′ r → ¬ (getD t (r .end) 0 ≡ b) → Builds G After k t at s m m′ w w′ r
+  loop-ends : Looping G After b St k t at s m m′ w w′ r → ¬ (getD t (r .end) 0 ≡ b) → Builds G After k t at s m m′ w w′ r
   loop-ends B f = record {
     from = B .from;
     within = B .within;
@@ -77,14 +77,31 @@ module _ {G Item : Rank} {After Below : ℕ → Type 0} {b : ℕ} {St : ℕ → 
         record { stands = e .1; performs = subst (λ q. Performs rel (policy-program k q) s m m′ w w′ (r .made)) (e .0) (o .performs) };
   }
 
+-- what the turns keep, from where the loop began (m₀, w₀, r₀): whatever was being read and built there still is
+pub record Carried (G : Rank) (After : ℕ → Type 0) (b : ℕ) (St : ℕ → Step) (k : ℕ) (t : List ℕ) (at : ℕ) (m₀ w₀ : List ℕ) (r₀ : Built) (m w : List ℕ)
+    (r : Built) : Type 0 where
+  pub from : at ≤ r .end
+  pub within : r .end ≤ length t
+  pub long : length m ≡ length m₀
+  pub wide : length w ≡ length w₀
+  pub on : (s : Arena) (n v : List ℕ) → Looping G After b St k t at s n m₀ v w₀ r₀ → Looping G After b St k t at s n m v w r
+
+module _ {G Item : Rank} {After Below : ℕ → Type 0} {b : ℕ} {St : ℕ → Step} (L : Looped G Item After Below b St) {k : ℕ} {t : List ℕ} {at : ℕ} where
+  pub loop-begins : {s : Arena} {m m₀ w w₀ : List ℕ} {r : Built} → Builds Item Below k t at s m m₀ w w₀ r → Carried G After b St k t at m₀ w₀ r m₀ w₀ r
+  loop-begins B = record { from = B .from; within = B .within; long = refl; wide = refl; on = λ s n v K. K }
+
+  pub loop-done : {s : Arena} {m m₀ m′ w w₀ w′ : List ℕ} {r₀ r : Built} → Builds Item Below k t at s m m₀ w w₀ r₀
+      → Carried G After b St k t at m₀ w₀ r₀ m′ w′ r → ¬ (getD t (r .end) 0 ≡ b) → Builds G After k t at s m m′ w w′ r
+  loop-done B C f = loop-ends L (C .on _ _ _ (loop-starts L B)) f
+
 -- a turn that joins what is built so far with an item
 module _ {G Item : Rank} {After Below : ℕ → Type 0} {b : ℕ} {join : Policy → Policy → Policy} (L : Looped G Item After Below b (joined join Item))
     {k : ℕ} {op : ℕ → ℕ → Prog} (program : (x y : Policy) → policy-program k (join x y) ≡ (policy-program k x >>= λ p. policy-program k y >>= λ q. op p q))
-    {t : List ℕ} {at : ℕ} {s : Arena} {m m₁ m₂ m₃ w w₁ w₂ w₃ : List ℕ} {p q r : Built} where
-  pub loop-joins : Looping G After b (joined join Item) k t at s m m₁ w w₁ p → getD t (p .end) 0 ≡ b → Builds Item Below k t (p .end + 1) (p .made) m₁ m₂ w₁ w₂ q
-      → Performs rel (op (p .made .h) (q .made .h)) (q .made) m₂ m₃ w₂ w₃ (r .made) → r .end ≡ q .end
-      → Looping G After b (joined join Item) k t at s m m₃ w w₃ r
-  loop-joins B f I P e = record {
+    {t : List ℕ} {at : ℕ} {m₁ m₂ m₃ w₁ w₂ w₃ : List ℕ} {p q r : Built} (f : getD t (p .end) 0 ≡ b)
+    (I : Builds Item Below k t (p .end + 1) (p .made) m₁ m₂ w₁ w₂ q) (P : Performs rel (op (p .made .h) (q .made .h)) (q .made) m₂ m₃ w₂ w₃ (r .made))
+    (e : r .end ≡ q .end) where
+  joins-on : {s : Arena} {m w : List ℕ} → Looping G After b (joined join Item) k t at s m m₁ w w₁ p → Looping G After b (joined join Item) k t at s m m₃ w w₃ r
+  joins-on B = record {
     from = omega (arith, B .from, I .from, e);
     within = omega (arith, I .within, e);
     way = λ d u x rest g h n.
@@ -100,13 +117,26 @@ module _ {G Item : Rank} {After Below : ℕ → Type 0} {b : ℕ} {join : Policy
         };
   }
 
+  pub loop-joins : {m₀ w₀ : List ℕ} {r₀ : Built} → Carried G After b (joined join Item) k t at m₀ w₀ r₀ m₁ w₁ p → length m₃ ≡ length m₀ → length w₃ ≡ length w₀
+      → Carried G After b (joined join Item) k t at m₀ w₀ r₀ m₃ w₃ r
+  loop-joins C l v = record {
+    from = omega (arith, C .from, I .from, e);
+    within = omega (arith, I .within, e);
+    long = l;
+    wide = v;
+    on = λ s n u K. joins-on (C .on s n u K);
+  }
+
 -- a star's turn
-module _ {k : ℕ} {t : List ℕ} {at : ℕ} {s : Arena} {m m₁ m₂ w w₁ w₂ : List ℕ} {p r : Built} where
-  pub loop-stars : Looping Starred after-starred 42 (λ d. Starring) k t at s m m₁ w w₁ p → getD t (p .end) 0 ≡ 42 → p .end + 1 ≤ length t
-      → Performs rel (star k (p .made .h)) (p .made) m₁ m₂ w₁ w₂ (r .made) → r .end ≡ p .end + 1
+abbrev pub StarCarried : ℕ → List ℕ → ℕ → List ℕ → List ℕ → Built → List ℕ → List ℕ → Built → Type 0
+StarCarried = Carried Starred after-starred 42 (λ d. Starring)
+
+module _ {k : ℕ} {t : List ℕ} {at : ℕ} {m₁ m₂ w₁ w₂ : List ℕ} {p r : Built} (f : getD t (p .end) 0 ≡ 42) (l : p .end + 1 ≤ length t)
+    (P : Performs rel (star k (p .made .h)) (p .made) m₁ m₂ w₁ w₂ (r .made)) (e : r .end ≡ p .end + 1) where
+  stars-on : {s : Arena} {m w : List ℕ} → Looping Starred after-starred 42 (λ d. Starring) k t at s m m₁ w w₁ p
       → Looping Starred after-starred 42 (λ d. Starring) k t at s m m₂ w w₂ r
   unfolding policy-program
-  loop-stars B f l P e = record {
+  stars-on B = record {
     from = omega (arith, B .from, e);
     within = omega (arith, l, e);
     way = λ d u x rest g h n.
@@ -120,6 +150,10 @@ module _ {k : ℕ} {t : List ℕ} {at : ℕ} {s : Arena} {m m₁ m₂ w w₁ w�
           performs = performs-by (ap (policy-program k) (a .by .1)) (performs-then (o .performs) P);
         };
   }
+
+  pub loop-stars : {m₀ w₀ : List ℕ} {r₀ : Built} → StarCarried k t at m₀ w₀ r₀ m₁ w₁ p → length m₂ ≡ length m₀ → length w₂ ≡ length w₀
+      → StarCarried k t at m₀ w₀ r₀ m₂ w₂ r
+  loop-stars C i v = record { from = omega (arith, C .from, e); within = omega (arith, l, e); long = i; wide = v; on = λ s n u K. stars-on (C .on s n u K) }
 
 -- the programs of a product and a sum
 pub seq-program : (k : ℕ) (x y : Policy) → policy-program k (seq x y) ≡ (policy-program k x >>= λ p. policy-program k y >>= λ q. sequence k p q)
