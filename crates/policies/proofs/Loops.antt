@@ -1,6 +1,6 @@
 -- A loop over the steps of a chain builds a starred item, a product or a sum, from what its body's calls do.
 use mathlib.Core.Path.{_≡_, refl, sym, ap, _∙_, subst}
-use mathlib.Core.List.{List, [], _∷_, _++_, append-assoc}
+use mathlib.Core.List.{List, [], _++_, append-assoc, append-nil}
 use Prim.Native.Nat.{ℕ, _+_, _≤_}
 use native.Mathlib.Omega.{arith}
 use lib.ListN.{length, getD, drop}
@@ -13,7 +13,7 @@ use Rattle.memory.specs.Arena.{Performs}
 use Rattle.memory.specs.declared.Arena.{Arena}
 use Rattle.memory.proofs.Steps.{performs-then, performs-by}
 use Rattle.texts.specs.Grammar.{Atom, Starred, Product, Sum}
-use Rattle.policies.specs.Building.{Rank, BuildsPart, Builds, after-atom, after-starred, after-product, after-sum}
+use Rattle.policies.specs.Building.{Rank, Builds, BuildsText, after-atom, after-starred, after-product, after-sum}
 use Rattle.policies.specs.declared.build.Built.{Built}
 use Rattle.policies.proofs.Chains.{Step, Chain, Begun, Starring, Joining, starred-begun, product-begun, sum-begun}
 use Rattle.policies.proofs.Chains.{chain-next, chain-end, chain-first}
@@ -163,3 +163,10 @@ seq-program k x y = refl
 pub plus-program : (k : ℕ) (x y : Policy) → policy-program k (plus x y) ≡ (policy-program k x >>= λ p. policy-program k y >>= λ q. union rel k p q)
 unfolding policy-program
 plus-program k x y = refl
+
+-- a text that is a sum, to its end
+pub text-builds : {k : ℕ} {t : List ℕ} {s : Arena} {m m′ w w′ : List ℕ} {r : Built} → Builds Sum after-sum k t 0 s m m′ w w′ r
+    → BuildsText k t s m m′ w w′ (r .made)
+text-builds {t = t} B = record {
+  builds = λ d p S. B .part d t p [] S (sym (append-nil t)) (λ e. omega (arith, e), λ e. omega (arith, e), λ e. omega (arith, e)) .performs;
+}

@@ -10,7 +10,8 @@ use Rattle.nodes.specs.Policies.{plus, seq}
 use Rattle.texts.specs.Grammar.{Starred, Product, Sum}
 use Rattle.policies.specs.Building.{after-product, after-sum}
 use Rattle.policies.proofs.Atoms.{negation-builds, paren-builds}
-use Rattle.policies.proofs.Loops.{Carried, StarCarried, joined, starred-looped, product-looped, sum-looped, loop-begins, loop-done, loop-joins, loop-stars}
+use Rattle.policies.proofs.Loops.{Carried, StarCarried, joined, starred-looped, product-looped, sum-looped, loop-begins, loop-done, loop-joins}
+use Rattle.policies.proofs.Loops.{loop-stars}
 use Rattle.policies.proofs.Loops.{seq-program, plus-program}
 use Rattle.policies.proofs.build.atom.Reads as atom
 use Rattle.policies.proofs.build.atom.Kinds as atom-kinds
@@ -124,19 +125,25 @@ pub +atom+product+starred+sum-spec : {M : Type 1} → statement M
     (λ t. atom-lts.spec (atom-calls t) (atom-at t) atom.Post
     (λ c κs. search needs)
     (λ c. let l = c .before .byte .ensures .1 (omega (arith, c .if1 .taken)) in omega (arith, l))
-    (λ c κs. let l = c .before .before .before .byte .ensures .1 (omega (arith, c .before .before .if1 .taken)) in (omega (arith, l, c .before .before .before .before .before .before .before .pre .0), omega (arith, l)))
+    (λ c κs. let l = c .before .before .before .byte .ensures .1 (omega (arith, c .before .before .if1 .taken)) in (omega (arith, l,
+    c .before .before .before .before .before .before .before .pre .0), omega (arith, l)))
     (λ c κs. search needs)
     (λ c κs. search needs)
     (λ c. search needs)
     (λ c. search needs)
-    (λ c. negation-builds (sym (c .before .before .before .before .before .before .before .before .before .before .before .before .before .before .before .before .before .before .before .before .before .before .before .byte .ensures .0) ∙ c .before .before .before .before .before .before .before .before .before .before .before .before .before .before .before .before .before .before .before .before .before .before .if1 .taken) (c .before .before .before .before .before .before .before .before .before .before .before .before .before .before .before .before .before .before .before .atom .ensures) (c .before .before .before .before .before .before .before .before .before .before .before .one-at-depth .ensures) (c .before .before .before .before .difference .ensures))
+    (λ c. negation-builds (sym
+    (c .before .before .before .before .before .before .before .before .before .before .before .before .before .before .before .before .before .before .before .before .before .before .before .byte .ensures .0) ∙ c .before .before .before .before .before .before .before .before .before .before .before .before .before .before .before .before .before .before .before .before .before .before .if1 .taken) (c .before .before .before .before .before .before .before .before .before .before .before .before .before .before .before .before .before .before .before .atom .ensures) (c .before .before .before .before .before .before .before .before .before .before .before .one-at-depth .ensures) (c .before .before .before .before .difference .ensures))
     (λ c. let l = c .before .before .byte .ensures .1 (omega (arith, c .if2 .taken)) in omega (arith, l))
-    (λ c κs. let l = c .before .before .before .before .byte .ensures .1 (omega (arith, c .before .before .if2 .taken)) in (omega (arith, l, c .before .before .before .before .before .before .before .before .pre .0), omega (arith, l)))
+    (λ c κs. let l = c .before .before .before .before .byte .ensures .1 (omega (arith, c .before .before .if2 .taken)) in (omega (arith, l,
+    c .before .before .before .before .before .before .before .before .pre .0), omega (arith, l)))
     (λ c κs. c .before .before .before .before .before .sum .ensures .within)
     (λ c. search needs)
     (λ c. search needs)
-    (λ c. paren-builds (sym (c .before .before .before .before .before .before .before .before .before .before .before .byte .ensures .0) ∙ c .before .before .before .before .before .before .before .before .before .if2 .taken) (c .before .before .before .before .before .before .sum .ensures) (c .past .ensures))
-    (λ c κs. (c .before .before .before .before .before .before .before .before .pre .1, λ e. c .before .before .before .if1 .left (c .before .before .before .before .byte .ensures .0 ∙ e), λ e. c .before .before .if2 .left (c .before .before .before .before .byte .ensures .0 ∙ e)))
+    (λ c. paren-builds (sym (c .before .before .before .before .before .before .before .before .before .before .before .byte .ensures .0)
+    ∙ c .before .before .before .before .before .before .before .before .before .if2 .taken) (c .before .before .before .before .before .before .sum .ensures)
+    (c .past .ensures))
+    (λ c κs. (c .before .before .before .before .before .before .before .before .pre .1, λ e. c .before .before .before .if1 .left
+    (c .before .before .before .before .byte .ensures .0 ∙ e), λ e. c .before .before .if2 .left (c .before .before .before .before .byte .ensures .0 ∙ e)))
     (λ c. search needs)
     (λ c. search needs)
     (λ c. c .before .before .before .before .leaf .ensures))
@@ -145,37 +152,66 @@ pub +atom+product+starred+sum-spec : {M : Type 1} → statement M
     (λ c. loop-begins product-looped (c .before .before .before .before .before .starred .ensures))
     (λ c κs. search needs)
     (λ c. let l = c .before .byte .ensures .1 (omega (arith, c .if1 .taken)) in omega (arith, l))
-    (λ c κs. let l = c .before .before .before .byte .ensures .1 (omega (arith, c .before .before .if1 .taken)) in (omega (arith, l, c .before .before .before .before .loop .inv .from, c .before .before .before .before .before .before .before .before .before .before .before .before .before .before .before .before .pre .0), omega (arith, l)))
+    (λ c κs. let l = c .before .before .before .byte .ensures .1 (omega (arith, c .before .before .if1 .taken)) in (omega (arith, l,
+    c .before .before .before .before .loop .inv .from,
+    c .before .before .before .before .before .before .before .before .before .before .before .before .before .before .before .before .pre .0), omega (arith,
+    l)))
     (λ c κs. search needs)
     (λ c. let l = c .before .before .before .before .before .before .before .before .before .before .before .before .before .before .before .before .byte .ensures .1 (omega (arith, c .before .before .before .before .before .before .before .before .before .before .before .before .before .before .before .if1 .taken)) in omega (arith, l, c .before .before .before .before .before .before .before .before .before .before .before .before .starred2 .ensures .from))
-    (λ c. loop-joins product-looped (seq-program _) (sym (c .before .before .before .before .before .before .before .before .before .before .before .before .before .before .before .before .byte .ensures .0) ∙ c .before .before .before .before .before .before .before .before .before .before .before .before .before .before .before .if1 .taken) (c .before .before .before .before .before .before .before .before .before .before .before .before .starred2 .ensures) (c .before .before .before .before .sequence .ensures) refl (c .before .before .before .before .before .before .before .before .before .before .before .before .before .before .before .before .before .loop .inv)
-    (omega (arith, c .before .before .before .nodes3 .given, c .before .before .before .before .before .before .before .before .before .before .before .nodes2 .given, c .before .before .before .before .before .before .before .before .before .before .before .before .before .before .before .before .before .loop .inv .long)) (omega (arith, c .before .work3 .given, c .before .before .before .before .before .before .before .before .before .work2 .given, c .before .before .before .before .before .before .before .before .before .before .before .before .before .before .before .before .before .loop .inv .wide)))
+    (λ c. loop-joins product-looped (seq-program _) (sym
+    (c .before .before .before .before .before .before .before .before .before .before .before .before .before .before .before .before .byte .ensures .0)
+    ∙ c .before .before .before .before .before .before .before .before .before .before .before .before .before .before .before .if1 .taken)
+    (c .before .before .before .before .before .before .before .before .before .before .before .before .starred2 .ensures)
+    (c .before .before .before .before .sequence .ensures) refl
+    (c .before .before .before .before .before .before .before .before .before .before .before .before .before .before .before .before .before .loop .inv)
+    (omega (arith, c .before .before .before .nodes3 .given,
+    c .before .before .before .before .before .before .before .before .before .before .before .nodes2 .given,
+    c .before .before .before .before .before .before .before .before .before .before .before .before .before .before .before .before .before .loop .inv .long)) (omega (arith, c .before .work3 .given, c .before .before .before .before .before .before .before .before .before .work2 .given, c .before .before .before .before .before .before .before .before .before .before .before .before .before .before .before .before .before .loop .inv .wide)))
     (λ c. omega (arith, c .before .before .before .before .before .before .before .nodes .given, c .before .before .loop .inv .long))
     (λ c. omega (arith, c .before .before .before .before .before .work .given, c .before .before .loop .inv .wide))
-    (λ c. loop-done product-looped (c .before .before .before .before .before .before .before .before .starred .ensures) (c .before .before .loop .inv) (λ e. c .if1 .left (c .before .byte .ensures .0 ∙ e))))
+    (λ c. loop-done product-looped (c .before .before .before .before .before .before .before .before .starred .ensures) (c .before .before .loop .inv)
+    (λ e. c .if1 .left (c .before .byte .ensures .0 ∙ e))))
     (λ t. starred-lts.spec (starred-calls t) (starred-at t) starred.Post starred-Inv starred-μ
     (λ c κs. (omega (arith, c .before .before .before .before .before .pre .0), c .before .before .before .before .before .pre .1))
     (λ c. loop-begins starred-looped (c .before .before .before .before .before .atom .ensures))
     (λ c κs. search needs)
     (λ c κs. search needs)
-    (λ c. let l = c .before .before .before .before .before .before .before .before .byte .ensures .1 (omega (arith, c .before .before .before .before .before .before .before .if1 .taken)) in omega (arith, l))
-    (λ c. let l = c .before .before .before .before .before .before .before .before .byte .ensures .1 (omega (arith, c .before .before .before .before .before .before .before .if1 .taken)) in omega (arith, l))
-    (λ c. let l = c .before .before .before .before .before .before .before .before .byte .ensures .1 (omega (arith, c .before .before .before .before .before .before .before .if1 .taken)) in
-    loop-stars (sym (c .before .before .before .before .before .before .before .before .byte .ensures .0) ∙ c .before .before .before .before .before .before .before .if1 .taken) (omega (arith, l)) (c .before .before .before .before .star .ensures) refl (c .before .before .before .before .before .before .before .before .before .loop .inv)
-    (omega (arith, c .before .before .before .nodes2 .given, c .before .before .before .before .before .before .before .before .before .loop .inv .long)) (omega (arith, c .before .work2 .given, c .before .before .before .before .before .before .before .before .before .loop .inv .wide)))
+    (λ c. let l = c .before .before .before .before .before .before .before .before .byte .ensures .1 (omega (arith,
+    c .before .before .before .before .before .before .before .if1 .taken)) in omega (arith, l))
+    (λ c. let l = c .before .before .before .before .before .before .before .before .byte .ensures .1 (omega (arith,
+    c .before .before .before .before .before .before .before .if1 .taken)) in omega (arith, l))
+    (λ c. let l = c .before .before .before .before .before .before .before .before .byte .ensures .1 (omega (arith,
+    c .before .before .before .before .before .before .before .if1 .taken)) in
+    loop-stars (sym (c .before .before .before .before .before .before .before .before .byte .ensures .0)
+    ∙ c .before .before .before .before .before .before .before .if1 .taken) (omega (arith, l)) (c .before .before .before .before .star .ensures) refl
+    (c .before .before .before .before .before .before .before .before .before .loop .inv)
+    (omega (arith, c .before .before .before .nodes2 .given, c .before .before .before .before .before .before .before .before .before .loop .inv .long))
+    (omega (arith, c .before .work2 .given, c .before .before .before .before .before .before .before .before .before .loop .inv .wide)))
     (λ c. omega (arith, c .before .before .before .before .before .before .before .nodes .given, c .before .before .loop .inv .long))
     (λ c. omega (arith, c .before .before .before .before .before .work .given, c .before .before .loop .inv .wide))
-    (λ c. loop-done starred-looped (c .before .before .before .before .before .before .before .before .atom .ensures) (c .before .before .loop .inv) (λ e. c .if1 .left (c .before .byte .ensures .0 ∙ e))))
+    (λ c. loop-done starred-looped (c .before .before .before .before .before .before .before .before .atom .ensures) (c .before .before .loop .inv)
+    (λ e. c .if1 .left (c .before .byte .ensures .0 ∙ e))))
     (λ t. sum-lts.spec (sum-calls t) (sum-at t) sum.Post sum-Inv sum-μ
     (λ c κs. (omega (arith, c .before .before .before .before .before .pre .0), c .before .before .before .before .before .pre .1))
     (λ c. loop-begins sum-looped (c .before .before .before .before .before .product .ensures))
     (λ c κs. search needs)
     (λ c. let l = c .before .byte .ensures .1 (omega (arith, c .if1 .taken)) in omega (arith, l))
-    (λ c κs. let l = c .before .before .before .byte .ensures .1 (omega (arith, c .before .before .if1 .taken)) in (omega (arith, l, c .before .before .before .before .loop .inv .from, c .before .before .before .before .before .before .before .before .before .before .before .before .before .before .before .before .pre .0), omega (arith, l)))
+    (λ c κs. let l = c .before .before .before .byte .ensures .1 (omega (arith, c .before .before .if1 .taken)) in (omega (arith, l,
+    c .before .before .before .before .loop .inv .from,
+    c .before .before .before .before .before .before .before .before .before .before .before .before .before .before .before .before .pre .0), omega (arith,
+    l)))
     (λ c κs. search needs)
     (λ c. let l = c .before .before .before .before .before .before .before .before .before .before .before .before .before .before .before .before .byte .ensures .1 (omega (arith, c .before .before .before .before .before .before .before .before .before .before .before .before .before .before .before .if1 .taken)) in omega (arith, l, c .before .before .before .before .before .before .before .before .before .before .before .before .product2 .ensures .from))
-    (λ c. loop-joins sum-looped (plus-program _) (sym (c .before .before .before .before .before .before .before .before .before .before .before .before .before .before .before .before .byte .ensures .0) ∙ c .before .before .before .before .before .before .before .before .before .before .before .before .before .before .before .if1 .taken) (c .before .before .before .before .before .before .before .before .before .before .before .before .product2 .ensures) (c .before .before .before .before .union .ensures) refl (c .before .before .before .before .before .before .before .before .before .before .before .before .before .before .before .before .before .loop .inv)
-    (omega (arith, c .before .before .before .nodes3 .given, c .before .before .before .before .before .before .before .before .before .before .before .nodes2 .given, c .before .before .before .before .before .before .before .before .before .before .before .before .before .before .before .before .before .loop .inv .long)) (omega (arith, c .before .work3 .given, c .before .before .before .before .before .before .before .before .before .work2 .given, c .before .before .before .before .before .before .before .before .before .before .before .before .before .before .before .before .before .loop .inv .wide)))
+    (λ c. loop-joins sum-looped (plus-program _) (sym
+    (c .before .before .before .before .before .before .before .before .before .before .before .before .before .before .before .before .byte .ensures .0)
+    ∙ c .before .before .before .before .before .before .before .before .before .before .before .before .before .before .before .if1 .taken)
+    (c .before .before .before .before .before .before .before .before .before .before .before .before .product2 .ensures)
+    (c .before .before .before .before .union .ensures) refl
+    (c .before .before .before .before .before .before .before .before .before .before .before .before .before .before .before .before .before .loop .inv)
+    (omega (arith, c .before .before .before .nodes3 .given,
+    c .before .before .before .before .before .before .before .before .before .before .before .nodes2 .given,
+    c .before .before .before .before .before .before .before .before .before .before .before .before .before .before .before .before .before .loop .inv .long)) (omega (arith, c .before .work3 .given, c .before .before .before .before .before .before .before .before .before .work2 .given, c .before .before .before .before .before .before .before .before .before .before .before .before .before .before .before .before .before .loop .inv .wide)))
     (λ c. omega (arith, c .before .before .before .before .before .before .before .nodes .given, c .before .before .loop .inv .long))
     (λ c. omega (arith, c .before .before .before .before .before .work .given, c .before .before .loop .inv .wide))
-    (λ c. loop-done sum-looped (c .before .before .before .before .before .before .before .before .product .ensures) (c .before .before .loop .inv) (λ e. c .if1 .left (c .before .byte .ensures .0 ∙ e))))
+    (λ c. loop-done sum-looped (c .before .before .before .before .before .before .before .before .product .ensures) (c .before .before .loop .inv)
+    (λ e. c .if1 .left (c .before .byte .ensures .0 ∙ e))))
