@@ -1,5 +1,5 @@
 pub mod Answers
 pub mod Outcome
 pub mod Lists
-pub mod Building
 pub mod Items
+pub mod Building
