@@ -10,3 +10,4 @@ pub mod BuiltTexts
 pub mod OneText
 pub mod AllCalls
 pub mod Demand3
+pub mod WrongTexts

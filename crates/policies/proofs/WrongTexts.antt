@@ -1,0 +1,109 @@
+-- Wrong versions of the claims about texts, refuted by small lists of calls: from the theorem about every list.
+use mathlib.Core.Path.{_≡_, refl, sym, ap, _∙_}
+use mathlib.Core.Logic.{inl, inr}
+use mathlib.Core.Bool.{true, false}
+use mathlib.Core.List.{List, [], _∷_, _++_}
+use Prim.Native.Nat.{ℕ}
+use native.Mathlib.Omega.{arith}
+use lib.ListN.{replicate}
+use Rattle.nodes.specs.Images.{new}
+use Rattle.nodes.specs.Operations.{constant, identity-at-depth}
+use Rattle.nodes.specs.Packets.{none, more}
+use Rattle.nodes.specs.Policies.{Policy, fail, skip, tests, assigns, negates, plus, seq, stars, meaning, fields-below?, negates-predicates?, policy-program}
+use Rattle.nodes.specs.Programs.{run}
+use Rattle.nodes.specs.Store.{get, place, having, mk-store, mk-handle}
+use Rattle.nodes.proofs.Pairs.{Same}
+use Rattle.judging.specs.Memory.{Memories, memories}
+use Rattle.store.specs.Calls.{new-store, step}
+use Rattle.store.specs.Lists.{in-turn, each-call}
+use Rattle.store.specs.Outcome.{provided, concludes}
+use Rattle.store.specs.declared.Answer.the-variants as store
+use Rattle.texts.specs.Grammar.{Sum, f-zero, b-zero, b-one, a-zero, a-one, a-test, s-atom, p-one, u-one, u-plus}
+use Rattle.policies.specs.Lists.{AnyCall, policy, text-relates, SamePairs, KeepsRules, answer-after, AcceptedIn, Demand3, plain-any-step}
+use Rattle.policies.specs.Outcome.{plain-policy-step}
+use Rattle.policies.specs.declared.PolicyAnswer.{PolicyAnswer}
+use Rattle.policies.specs.declared.PolicyAnswer.the-variants.{Handle, Declined}
+use Rattle.policies.specs.declared.PolicyRefusal.{PolicyRefusal}
+use Rattle.policies.proofs.Demand3.{demand-3}
+use Rattle.policies.proofs.OneText.{tree-relates}
+use Rattle.policies.proofs.TextOutcomes.{not-handle}
+
+-- a store of one field with three places for relations, as `new` fills it
+abbrev lent : Memories
+lent = memories (replicate 14 0) (replicate 3 0)
+
+accepted : step (new-store 1) lent .answer ≡ store.Handle 4
+unfolding step concludes provided run new constant identity-at-depth get place having mk-store mk-handle
+accepted = refl
+
+-- `0` and `1`
+abbrev zero-text : List ℕ
+zero-text = 48 ∷ []
+
+abbrev one-text : List ℕ
+one-text = 49 ∷ []
+
+zero-keeps : KeepsRules 1 zero-text
+unfolding fields-below? negates-predicates?
+zero-keeps = record { short = omega arith; tree = fail; follows = u-one (p-one (s-atom a-zero)); fields = refl; negations = refl }
+
+one-keeps : KeepsRules 1 one-text
+unfolding fields-below? negates-predicates?
+one-keeps = record { short = omega arith; tree = skip; follows = u-one (p-one (s-atom a-one)); fields = refl; negations = refl }
+
+-- both in one list, on the store as `new` left it and then again, no place being free
+abbrev both : List AnyCall
+both = policy zero-text ∷ policy one-text ∷ []
+
+claimed : Demand3 1 lent both
+unfolding each-call
+claimed = demand-3 1 lent 4 accepted both (tt, tt, tt)
+
+zero-accepted : answer-after 1 lent [] zero-text ≡ Handle 2
+unfolding in-turn run new constant identity-at-depth get place having mk-store mk-handle policy-program
+zero-accepted = claimed .refused zero-text [] (policy one-text ∷ []) refl zero-keeps
+
+one-accepted : answer-after 1 lent (policy zero-text ∷ []) one-text ≡ Handle 3
+unfolding in-turn run new constant identity-at-depth get place having mk-store mk-handle policy-program
+one-accepted = claimed .refused one-text (policy zero-text ∷ []) [] refl one-keeps ∙ ?
+
+-- EVERY TEXT REFUSED, or every text on the store as `new` left it
+pub not-all-refused : ¬ ((t : List ℕ) → (r : PolicyRefusal) × (answer-after 1 lent [] t ≡ Declined r))
+not-all-refused f = let r = f zero-text in not-handle (sym (r .1) ∙ zero-accepted)
+
+-- ONE HANDLE for all texts
+pub not-one-handle : (h : ℕ) → ¬ ((t : List ℕ) (g : ℕ) → AcceptedIn 1 lent both t g → g ≡ h)
+not-one-handle h f =
+    let a = f zero-text 2 (record { before = []; later = policy one-text ∷ []; is = refl; handle = zero-accepted }) in
+    let b = f one-text 3 (record { before = policy zero-text ∷ []; later = []; is = refl; handle = one-accepted }) in
+    omega arith
+
+-- THE FIRST PRODUCT ONLY: it loses the pairs of the others
+unfoldable first-product : Policy → Policy
+first-product fail = fail
+first-product skip = skip
+first-product (tests v b) = tests v b
+first-product (assigns v b) = assigns v b
+first-product (negates x) = negates (first-product x)
+first-product (plus x y) = first-product x
+first-product (seq x y) = seq (first-product x) (first-product y)
+first-product (stars x) = stars (first-product x)
+
+pub not-first-product : ¬ ((x : Policy) → Same 1 (meaning 1 (first-product x)) (meaning 1 x))
+unfolding meaning first-product
+not-first-product f = f (plus fail skip) (0 ∷ []) (0 ∷ []) (more 0 (omega arith) none) (more 0 (omega arith) none) .1 (inr refl)
+
+-- so that `0+1` and `0` never have one handle
+abbrev sum-text : List ℕ
+sum-text = zero-text ++ (43 ∷ one-text)
+
+sum-follows : Sum 32 sum-text (plus fail skip)
+sum-follows = u-plus (u-one (p-one (s-atom a-zero))) (p-one (s-atom a-one))
+
+pub sum-is-another : (cs : List AnyCall) (D : Demand3 1 lent cs) (g h : ℕ) → AcceptedIn 1 lent cs sum-text g → AcceptedIn 1 lent cs zero-text h → ¬ (g ≡ h)
+unfolding meaning
+sum-is-another cs D g h A B e =
+    let p = more 0 (omega arith) none in
+    let s = D .one-handle sum-text zero-text g h A B .0 e (0 ∷ []) (0 ∷ []) p p .0
+    (tree-relates 1 sum-text (plus fail skip) sum-follows (0 ∷ []) (0 ∷ []) p p .0 (inr refl)) in
+    tree-relates 1 zero-text fail (zero-keeps .follows) (0 ∷ []) (0 ∷ []) p p .1 s
