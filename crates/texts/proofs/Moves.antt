@@ -1,5 +1,5 @@
 -- How the run moves on at an offset of the text, and what that makes of the functions' promises.
-use mathlib.Core.Path.{_≡_, refl, sym, ap, _∙_}
+use mathlib.Core.Path.{_≡_, refl, sym, ap, subst, _∙_}
 use Prim.Native.Nat.{ℕ, zero, suc, _+_, _≤_, _<_}
 use native.Mathlib.Numerals.{add-one}
 use native.Mathlib.Omega.{arith}
@@ -177,6 +177,25 @@ module _ (t : List ℕ) where
   pub join-stop : (g h : ℕ → Bool) (d at e : ℕ) → (e < length t → g (getD t e 0) ≡ false → h (getD t e 0) ≡ false) → JoinPost g t d at (End e) → JoinPost h t d at (End e)
   unfolding JoinPost
   join-stop g h d at e f a = (a .0, a .1, (λ l. f l (a .2 l)), a .3)
+
+  -- the same of a result that is known
+  pub join-told : (g : ℕ → Bool) (d at e : ℕ) (x : Read) → x ≡ End e → JoinPost g t d at x → JoinPost g t d at (End e)
+  join-told g d at e x h a = subst (λ (y : Read). JoinPost g t d at y) h a
+
+  pub atom-told : (d at e : ℕ) (q : Open) (x : Read) → x ≡ End e → AtomPost t d q at x → AtomPost t d q at (End e)
+  atom-told d at e q x h a = subst (λ (y : Read). AtomPost t d q at y) h a
+
+  pub join-lt : (g : ℕ → Bool) (d at e : ℕ) → JoinPost g t d at (End e) → (e ≡ length t → ⊥) → e < length t
+  unfolding JoinPost
+  join-lt g d at e a f = omega (arith, a .1)
+
+  pub join-from : (g : ℕ → Bool) (d at e : ℕ) → JoinPost g t d at (End e) → at ≤ e
+  unfolding JoinPost
+  join-from g d at e a = a .0
+
+  pub atom-in : (d at e : ℕ) → AtomPost t d need at (End e) → e ≤ length t
+  unfolding AtomPost
+  atom-in d at e a = a .1
 
   -- operands up to i, each with its join
   pub Joined : ℕ → ℕ → ℕ → Type 0
