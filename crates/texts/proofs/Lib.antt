@@ -1,4 +1,5 @@
 pub mod Sound
 pub mod Complete
-pub mod Place
+pub mod Offsets
 pub mod Moves
+pub mod Passes
