@@ -3,3 +3,4 @@ pub mod Complete
 pub mod Offsets
 pub mod Moves
 pub mod Passes
+pub mod Order
