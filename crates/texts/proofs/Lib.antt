@@ -4,3 +4,4 @@ pub mod Offsets
 pub mod Moves
 pub mod Passes
 pub mod Order
+pub mod Clean

@@ -3,3 +3,4 @@ pub mod Machine
 pub mod Posts
 pub mod Reading
 pub mod Cases
+pub mod Answers
