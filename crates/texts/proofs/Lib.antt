@@ -5,3 +5,6 @@ pub mod Moves
 pub mod Passes
 pub mod Order
 pub mod Clean
+pub mod Counts
+pub mod Begins
+pub mod Says

@@ -11,12 +11,12 @@ use Rattle.texts.specs.declared.Reading.{Reading}
 
 -- a text begins with `x` and N, before the `=` of a test or the `:` of an assignment
 pub data Names (n : ℕ) : List ℕ → Type 0 where
-  names-test : {f s : List ℕ} → Field f n → Names n (120 ∷ (f ++ (61 ∷ s)))
-  names-assign : {f s : List ℕ} → Field f n → Names n (120 ∷ (f ++ (58 ∷ s)))
+  names-test : {f : List ℕ} (s : List ℕ) → Field f n → Names n (120 ∷ (f ++ (61 ∷ s)))
+  names-assign : {f : List ℕ} (s : List ℕ) → Field f n → Names n (120 ∷ (f ++ (58 ∷ s)))
 
 -- a text begins with `!` and an atom, its operand
 pub data Negates (p : Policy) : List ℕ → Type 0 where
-  negated : {d : ℕ} {s r : List ℕ} → Atom d s p → Negates p (33 ∷ (s ++ r))
+  negated : {d : ℕ} {s : List ℕ} (r : List ℕ) → Atom d s p → Negates p (33 ∷ (s ++ r))
 
 -- 5: "at the first `x` whose N is k or more", in a policy that names such a field
 pub record NoField (k : ℕ) (t : List ℕ) (i : ℕ) : Type 0 where
