@@ -8,3 +8,4 @@ pub mod Clean
 pub mod Counts
 pub mod Begins
 pub mod Says
+pub mod Worked

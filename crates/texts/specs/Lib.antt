@@ -2,5 +2,4 @@ pub mod Grammar
 pub mod Machine
 pub mod Posts
 pub mod Reading
-pub mod Cases
 pub mod Answers
