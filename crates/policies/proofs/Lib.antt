@@ -4,7 +4,6 @@ pub mod Names
 pub mod Chains
 pub mod Loops
 pub mod Atoms
-pub mod Stub
 pub mod TextOutcomes
 pub mod BuiltTexts
 pub mod OneText

@@ -8,7 +8,7 @@ use native.Mathlib.Omega.{arith}
 use lib.ListN.{replicate}
 use Rattle.nodes.specs.Images.{new}
 use Rattle.nodes.specs.Operations.{constant, identity-at-depth}
-use Rattle.nodes.specs.Packets.{none, more}
+use Rattle.nodes.specs.Packets.{none, more, Packet}
 use Rattle.nodes.specs.Policies.{Policy, fail, skip, tests, assigns, negates, plus, seq, stars, meaning, fields-below?, negates-predicates?, policy-program}
 use Rattle.nodes.specs.Programs.{run}
 use Rattle.nodes.specs.Store.{get, place, having, mk-store, mk-handle}
@@ -19,7 +19,7 @@ use Rattle.store.specs.Lists.{in-turn, each-call}
 use Rattle.store.specs.Outcome.{provided, concludes}
 use Rattle.store.specs.declared.Answer.the-variants as store
 use Rattle.texts.specs.Grammar.{Sum, f-zero, b-zero, b-one, a-zero, a-one, a-test, s-atom, p-one, u-one, u-plus}
-use Rattle.policies.specs.Lists.{AnyCall, policy, text-relates, SamePairs, KeepsRules, answer-after, AcceptedIn, Demand3, plain-any-step}
+use Rattle.policies.specs.Lists.{AnyCall, policy, text-relates, SamePairs, Keeps, answer-after, AcceptedIn, Demand3, plain-any-step}
 use Rattle.policies.specs.Outcome.{plain-policy-step}
 use Rattle.policies.specs.declared.PolicyAnswer.{PolicyAnswer}
 use Rattle.policies.specs.declared.PolicyAnswer.the-variants.{Handle, Declined}
@@ -43,13 +43,19 @@ zero-text = 48 ∷ []
 abbrev one-text : List ℕ
 one-text = 49 ∷ []
 
-zero-keeps : KeepsRules 1 zero-text
+zero-keeps : Keeps 1 zero-text
 unfolding fields-below? negates-predicates?
-zero-keeps = record { short = omega arith; tree = fail; follows = u-one (p-one (s-atom a-zero)); fields = refl; negations = refl }
+zero-keeps = record {
+  short = omega arith;
+  rules = record { policy = fail; follows = u-one (p-one (s-atom a-zero)); below = refl; negates-predicates = refl };
+}
 
-one-keeps : KeepsRules 1 one-text
+one-keeps : Keeps 1 one-text
 unfolding fields-below? negates-predicates?
-one-keeps = record { short = omega arith; tree = skip; follows = u-one (p-one (s-atom a-one)); fields = refl; negations = refl }
+one-keeps = record {
+  short = omega arith;
+  rules = record { policy = skip; follows = u-one (p-one (s-atom a-one)); below = refl; negates-predicates = refl };
+}
 
 -- both in one list, on the store as `new` left it and then again, no place being free
 abbrev both : List AnyCall
@@ -57,7 +63,7 @@ both = policy zero-text ∷ policy one-text ∷ []
 
 claimed : Demand3 1 lent both
 unfolding each-call
-claimed = demand-3 1 lent 4 accepted both (tt, tt, tt)
+claimed = demand-3 1 lent 4 accepted both (tt, (tt, tt))
 
 zero-accepted : answer-after 1 lent [] zero-text ≡ Handle 2
 unfolding in-turn run new constant identity-at-depth get place having mk-store mk-handle policy-program
@@ -79,7 +85,7 @@ not-one-handle h f =
     omega arith
 
 -- THE FIRST PRODUCT ONLY: it loses the pairs of the others
-unfoldable first-product : Policy → Policy
+unfoldable pub first-product : Policy → Policy
 first-product fail = fail
 first-product skip = skip
 first-product (tests v b) = tests v b
@@ -103,7 +109,7 @@ sum-follows = u-plus (u-one (p-one (s-atom a-zero))) (p-one (s-atom a-one))
 pub sum-is-another : (cs : List AnyCall) (D : Demand3 1 lent cs) (g h : ℕ) → AcceptedIn 1 lent cs sum-text g → AcceptedIn 1 lent cs zero-text h → ¬ (g ≡ h)
 unfolding meaning
 sum-is-another cs D g h A B e =
-    let p = more 0 (omega arith) none in
+    let p : Packet 1 (0 ∷ []) = more 0 (omega arith) none in
     let s = D .one-handle sum-text zero-text g h A B .0 e (0 ∷ []) (0 ∷ []) p p .0
     (tree-relates 1 sum-text (plus fail skip) sum-follows (0 ∷ []) (0 ∷ []) p p .0 (inr refl)) in
-    tree-relates 1 zero-text fail (zero-keeps .follows) (0 ∷ []) (0 ∷ []) p p .1 s
+    tree-relates 1 zero-text fail (zero-keeps .rules .follows) (0 ∷ []) (0 ∷ []) p p .1 s
