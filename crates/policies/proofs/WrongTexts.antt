@@ -57,31 +57,28 @@ one-keeps = record {
   rules = record { policy = skip; follows = u-one (p-one (s-atom a-one)); below = refl; negates-predicates = refl };
 }
 
--- both in one list, on the store as `new` left it and then again, no place being free
-abbrev both : List AnyCall
-both = policy zero-text ∷ policy one-text ∷ []
-
-claimed : Demand3 1 lent both
+-- a list of one text, on the store as `new` left it
+alone : (t : List ℕ) → Demand3 1 lent (policy t ∷ [])
 unfolding each-call
-claimed = demand-3 1 lent 4 accepted both (tt, (tt, tt))
+alone t = demand-3 1 lent 4 accepted (policy t ∷ []) (tt, tt)
 
 zero-accepted : answer-after 1 lent [] zero-text ≡ Handle 2
-unfolding in-turn run new constant identity-at-depth get place having mk-store mk-handle policy-program
-zero-accepted = claimed .refused zero-text [] (policy one-text ∷ []) refl zero-keeps
+unfolding in-turn run new constant identity-at-depth get place having mk-store mk-handle policy-program zero-keeps
+zero-accepted = alone zero-text .refused zero-text [] [] refl zero-keeps
 
-one-accepted : answer-after 1 lent (policy zero-text ∷ []) one-text ≡ Handle 3
-unfolding in-turn run new constant identity-at-depth get place having mk-store mk-handle policy-program
-one-accepted = claimed .refused one-text (policy zero-text ∷ []) [] refl one-keeps ∙ ?
+one-accepted : answer-after 1 lent [] one-text ≡ Handle 3
+unfolding in-turn run new constant identity-at-depth get place having mk-store mk-handle policy-program one-keeps
+one-accepted = alone one-text .refused one-text [] [] refl one-keeps
 
 -- EVERY TEXT REFUSED, or every text on the store as `new` left it
 pub not-all-refused : ¬ ((t : List ℕ) → (r : PolicyRefusal) × (answer-after 1 lent [] t ≡ Declined r))
 not-all-refused f = let r = f zero-text in not-handle (sym (r .1) ∙ zero-accepted)
 
 -- ONE HANDLE for all texts
-pub not-one-handle : (h : ℕ) → ¬ ((t : List ℕ) (g : ℕ) → AcceptedIn 1 lent both t g → g ≡ h)
+pub not-one-handle : (h : ℕ) → ¬ ((cs : List AnyCall) (t : List ℕ) (g : ℕ) → AcceptedIn 1 lent cs t g → g ≡ h)
 not-one-handle h f =
-    let a = f zero-text 2 (record { before = []; later = policy one-text ∷ []; is = refl; handle = zero-accepted }) in
-    let b = f one-text 3 (record { before = policy zero-text ∷ []; later = []; is = refl; handle = one-accepted }) in
+    let a = f (policy zero-text ∷ []) zero-text 2 (record { before = []; later = []; is = refl; handle = zero-accepted }) in
+    let b = f (policy one-text ∷ []) one-text 3 (record { before = []; later = []; is = refl; handle = one-accepted }) in
     omega arith
 
 -- THE FIRST PRODUCT ONLY: it loses the pairs of the others
@@ -107,7 +104,7 @@ sum-follows : Sum 32 sum-text (plus fail skip)
 sum-follows = u-plus (u-one (p-one (s-atom a-zero))) (p-one (s-atom a-one))
 
 pub sum-is-another : (cs : List AnyCall) (D : Demand3 1 lent cs) (g h : ℕ) → AcceptedIn 1 lent cs sum-text g → AcceptedIn 1 lent cs zero-text h → ¬ (g ≡ h)
-unfolding meaning
+unfolding meaning zero-keeps
 sum-is-another cs D g h A B e =
     let p : Packet 1 (0 ∷ []) = more 0 (omega arith) none in
     let s = D .one-handle sum-text zero-text g h A B .0 e (0 ∷ []) (0 ∷ []) p p .0

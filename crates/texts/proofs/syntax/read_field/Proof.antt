@@ -11,7 +11,7 @@ use Rattle.texts.proofs.syntax.read_field.Statement.{statement}
 use Rattle.texts.proofs.syntax.read_field.Tie as tie
 use Rattle.texts.proofs.syntax.read_field.Reads as reads
 use Rattle.texts.proofs.syntax.read_field.Lts as lts
-use Rattle.texts.proofs.syntax.is_digit.Reads as is-digit-reads
+use Rattle.texts.proofs.is_digit.Reads as is-digit-reads
 use Rattle.texts.proofs.syntax.read_relation.Reads as read-relation-reads
 
 returns : tie.Need-returns
