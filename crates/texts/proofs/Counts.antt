@@ -4,7 +4,7 @@ use mathlib.Core.Path.{_≡_, refl, sym, ap, _∙_}
 use Prim.Native.Nat.{ℕ, zero, suc, _+_, _-_, _*_, _≤_, _<_}
 use native.Mathlib.Omega.{arith}
 use mathlib.Core.List.{List, [], _∷_, _++_, append-assoc}
-use mathlib.Core.Bool.{Bool, true, false, cond, not, _&&_}
+use mathlib.Core.Bool.{Bool, true, false, cond, not, _&&_, and-true, and-assoc, Bool·not-not}
 use lib.Dec.{eqb, leb, ltb}
 use borrow.Author.Tests.{ne-eqb, le-leb, leb-true, leb-false, lt-ltb, le-ltb}
 use Rattle.nodes.specs.Policies.{Policy, predicate?, negates-predicates?, fields-below?}
@@ -32,21 +32,13 @@ pub record Finds (R : Policy → Bool) (P : List ℕ → Bool) : Type 0 where
   seq : (p q : Policy) → R (Policy.seq p q) ≡ R p && R q
   stars : (p : Policy) → R (Policy.stars p) ≡ R p
 
-and-true : (x : Bool) → x && true ≡ x
-and-true true = refl
-and-true false = refl
-
 none-append : (P : List ℕ → Bool) (s t r : List ℕ) → none P (s ++ t) r ≡ none P s (t ++ r) && none P t r
 unfolding none
 none-append P [] t r = refl
 none-append P (b ∷ s) t r =
     ap (λ (w : List ℕ). not (P (b ∷ w)) && none P (s ++ t) r) (append-assoc s t r)
     ∙ ap (λ (x : Bool). not (P (b ∷ (s ++ (t ++ r)))) && x) (none-append P s t r)
-    ∙ assoc (not (P (b ∷ (s ++ (t ++ r))))) (none P s (t ++ r)) (none P t r)
-  where
-    assoc : (x y z : Bool) → x && (y && z) ≡ (x && y) && z
-    assoc true y z = refl
-    assoc false y z = refl
+    ∙ sym (and-assoc (not (P (b ∷ (s ++ (t ++ r))))) (none P s (t ++ r)) (none P t r))
 
 module _ (R : Policy → Bool) (P : List ℕ → Bool) (F : Finds R P) where
   none-other : (b : ℕ) (s r : List ℕ) → (b ≡ 120 → ⊥) → (b ≡ 33 → ⊥) → none P (b ∷ s) r ≡ none P s r
@@ -163,12 +155,9 @@ negations-found = record {
   skip = refl;
   tests = λ v s g. refl;
   assigns = λ v s g. refl;
-  negates = λ {d} {s} {p} r a. ap (λ (x : Bool). x && negates-predicates? p) (twice (predicate? p) ∙ ap (λ (x : Bool). not (not x)) (sym (clean-atom a r)));
+  negates = λ {d} {s} {p} r a.
+      ap (λ (x : Bool). x && negates-predicates? p) (sym (Bool·not-not (predicate? p)) ∙ ap (λ (x : Bool). not (not x)) (sym (clean-atom a r)));
   plus = λ p q. refl;
   seq = λ p q. refl;
   stars = λ p. refl;
 }
-  where
-    twice : (x : Bool) → x ≡ not (not x)
-    twice true = refl
-    twice false = refl
