@@ -1,6 +1,6 @@
 -- The operand of a `!` has neither `:` nor `*` exactly when its policy is a predicate; by induction on derivations.
 use mathlib.Core.Path.{_≡_, refl, sym, ap, _∙_}
-use Prim.Native.Nat.{ℕ, zero, suc, _+_, _-_, _≤_, _<_}
+use Prim.Native.Nat.{ℕ, suc, _≤_, _<_}
 use native.Mathlib.Numerals.{add-one}
 use native.Mathlib.Omega.{arith}
 use mathlib.Core.List.{List, [], _∷_, _++_, append-assoc}
@@ -9,8 +9,8 @@ use lib.Dec.{eqb}
 use borrow.Author.Tests.{ne-eqb}
 use Rattle.nodes.specs.Policies.{Policy, predicate?}
 use Rattle.texts.specs.Grammar.{Field, f-zero, f-one, f-two, Bit, b-zero, b-one}
-use Rattle.texts.specs.Grammar.{Atom, a-zero, a-one, a-test, a-assign, a-neg, a-paren, Starred, s-atom, s-star}
-use Rattle.texts.specs.Grammar.{Product, p-one, p-seq, Sum, u-one, u-plus}
+use Rattle.texts.specs.Grammar.{Atom, a-zero, a-one, a-test, a-assign, a-neg, a-paren, s-atom, s-star}
+use Rattle.texts.specs.Grammar.{p-one, p-seq, u-one, u-plus}
 use Rattle.texts.specs.Reading.{test?, open-after, clean-inside?, clean?}
 
 -- one byte inside a parenthesis

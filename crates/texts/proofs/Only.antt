@@ -3,18 +3,17 @@ use mathlib.Core.Path.{_≡_, refl, sym, ap, subst, _∙_}
 use Prim.Native.Nat.{ℕ, suc, _-_, _+_, _≤_, _<_}
 use native.Mathlib.Omega.{arith}
 use native.Mathlib.Decide.{decLt}
-use mathlib.Core.List.{List, [], _∷_, _++_, append-assoc}
+use mathlib.Core.List.{List, [], _++_, append-assoc}
 use mathlib.Core.Bool.{Bool, true, false, not, true≢false}
 use lib.ListN.{length, take, drop, take-append-drop}
 use lib.Seq.{take-add}
-use lib.Dec.{leb}
 use borrow.Author.Tests.{le-leb}
-use Rattle.nodes.specs.Policies.{Policy, predicate?, negates-predicates?, fields-below?}
+use Rattle.nodes.specs.Policies.{Policy, negates-predicates?, fields-below?}
 use Rattle.nodes.proofs.Bools.{by-test}
 use Rattle.texts.specs.Grammar.{Sum, Extends, NotPolicy, TooDeep}
 use Rattle.texts.specs.Machine.{Out, accept, bad, deep, reads}
 use Rattle.texts.specs.Reading.{first, no-field?, offends?, rules, reading-of, reading}
-use Rattle.texts.specs.Answers.{Names, Negates, NoField, NotPredicate, Says}
+use Rattle.texts.specs.Answers.{NoField, NotPredicate, Says}
 use Rattle.texts.specs.declared.Found.{Found}
 use Rattle.texts.specs.declared.Found.the-variants.{Nowhere, At}
 use Rattle.texts.specs.declared.Reading.{Reading}
@@ -31,8 +30,7 @@ shorter : (d : ℕ) (t : List ℕ) (i j : ℕ) → i ≤ j → Extends d (take j
 unfolding Extends
 shorter d t i j h x =
     let k : j ≡ i + (j - i) = omega arith in
-    let e : take j t ≡ take i t ++ take (j - i) (drop i t) = ap (λ (k : ℕ). take k t) k ∙ take-add i (j - i) t in
-    (
+    let e : take j t ≡ take i t ++ take (j - i) (drop i t) = ap (λ (k : ℕ). take k t) k ∙ take-add i (j - i) t in (
       take (j - i) (drop i t) ++ x .0,
       x .1,
       subst (λ (z : List ℕ). Sum d z (x .1)) (ap (λ (z : List ℕ). z ++ x .0) e ∙ append-assoc (take i t) (take (j - i) (drop i t)) (x .0)) (x .2),

@@ -4,7 +4,7 @@ use mathlib.Core.Path.{_≡_, refl, sym, ap, subst, _∙_}
 use mathlib.Core.Logic.{_↔_}
 use Prim.Native.Nat.{ℕ, _≤_}
 use native.Mathlib.Nat.{zero-add}
-use mathlib.Core.List.{List, [], _∷_}
+use mathlib.Core.List.{List, []}
 use mathlib.Core.Bool.{Bool, true, false, not, _&&_, true≢false}
 use lib.Dec.{leb}
 use borrow.Author.Tests.{ne-eqb, leb-true, leb-false}
@@ -112,9 +112,9 @@ unfolding reading reading-of rules
 reads-policy k t h =
     ap (reading-of k t) (complete t (h .policy) (h .follows))
     ∙ ap (λ (f : Found). rules f (first offends? 0 t))
-        (first-nowhere (no-field? k) t (sym (finds (fields-below? k) (no-field? k) (fields-found k) (h .follows) []) ∙ h .below))
+    (first-nowhere (no-field? k) t (sym (finds (fields-below? k) (no-field? k) (fields-found k) (h .follows) []) ∙ h .below))
     ∙ ap (λ (f : Found). rules Nowhere f)
-        (first-nowhere offends? t (sym (finds negates-predicates? offends? negations-found (h .follows) []) ∙ h .negates-predicates))
+    (first-nowhere offends? t (sym (finds negates-predicates? offends? negations-found (h .follows) []) ∙ h .negates-predicates))
 
 pub keeps-rules : (k : ℕ) (t : List ℕ) → (reading k t ≡ Reading.Policy) ↔ KeepsRules k t
 unfolding Says
