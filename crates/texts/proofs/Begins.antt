@@ -1,15 +1,15 @@
 -- In a text that follows the grammar each `x` begins a test or an assignment and each `!` has an atom after it; by induction on
 -- derivations.
 use mathlib.Core.Path.{_≡_, sym, subst}
-use Prim.Native.Nat.{ℕ, zero, suc, _≤_, _<_}
+use Prim.Native.Nat.{ℕ, zero, suc, _<_}
 use native.Mathlib.Omega.{arith}
 use mathlib.Core.List.{List, [], _∷_, _++_, append-assoc, append-nil}
 use mathlib.Core.Bool.{Bool}
 use lib.ListN.{length, drop}
 use Rattle.nodes.specs.Policies.{Policy}
 use Rattle.texts.specs.Grammar.{Field, f-zero, f-one, f-two, Bit, b-zero, b-one}
-use Rattle.texts.specs.Grammar.{Atom, a-zero, a-one, a-test, a-assign, a-neg, a-paren, Starred, s-atom, s-star}
-use Rattle.texts.specs.Grammar.{Product, p-one, p-seq, Sum, u-one, u-plus}
+use Rattle.texts.specs.Grammar.{Atom, a-zero, a-one, a-test, a-assign, a-neg, a-paren, s-atom, s-star}
+use Rattle.texts.specs.Grammar.{p-one, p-seq, Sum, u-one, u-plus}
 use Rattle.texts.specs.Answers.{Names, names-test, names-assign, Negates, negated}
 
 -- how what is left of a text begins
@@ -74,20 +74,20 @@ case-join b s t r h k x y = every-append s (b ∷ t) r x (every-other b t r h k 
 every : {d : ℕ} {s : List ℕ} {p : Policy} → Sum d s p → (r : List ℕ) → Every s r
 every a = elim a as (λ d s p x. (r : List ℕ) → Every s r) (λ d s p x. (r : List ℕ) → Every s r)
     (λ d s p x. (r : List ℕ) → Every s r) (λ d s p x. (r : List ℕ) → Every s r) [
-  | a-zero ↦ (λ r. every-other 48 [] r (λ e. omega arith) (λ e. omega arith) (every-none r))
-  | a-one ↦ (λ r. every-other 49 [] r (λ e. omega arith) (λ e. omega arith) (every-none r))
-  | a-test f b ↦ case-test f b
-  | a-assign f b ↦ case-assign f b
-  | a-neg l (x → h) ↦ case-neg x h
-  | a-paren {s = s} l (x → h) ↦ (λ r. every-other 40 (s ++ (41 ∷ [])) r (λ e. omega arith) (λ e. omega arith)
-      (case-join 41 s [] r (λ e. omega arith) (λ e. omega arith) (h (41 ∷ r)) (every-none r)))
-  | s-atom (x → h) ↦ h
-  | s-star {s = s} (x → h) ↦ (λ r. case-join 42 s [] r (λ e. omega arith) (λ e. omega arith) (h (42 ∷ r)) (every-none r))
-  | p-one (x → h) ↦ h
-  | p-seq {s = s} {t = t} (x → h) (y → k) ↦ (λ r. case-join 59 s t r (λ e. omega arith) (λ e. omega arith) (h (59 ∷ (t ++ r))) (k r))
-  | u-one (x → h) ↦ h
-  | u-plus {s = s} {t = t} (x → h) (y → k) ↦ (λ r. case-join 43 s t r (λ e. omega arith) (λ e. omega arith) (h (43 ∷ (t ++ r))) (k r))
-]
+      | a-zero ↦ (λ r. every-other 48 [] r (λ e. omega arith) (λ e. omega arith) (every-none r))
+      | a-one ↦ (λ r. every-other 49 [] r (λ e. omega arith) (λ e. omega arith) (every-none r))
+      | a-test f b ↦ case-test f b
+      | a-assign f b ↦ case-assign f b
+      | a-neg l (x → h) ↦ case-neg x h
+      | a-paren {s = s} l (x → h) ↦ (λ r. every-other 40 (s ++ (41 ∷ [])) r (λ e. omega arith) (λ e. omega arith)
+          (case-join 41 s [] r (λ e. omega arith) (λ e. omega arith) (h (41 ∷ r)) (every-none r)))
+      | s-atom (x → h) ↦ h
+      | s-star {s = s} (x → h) ↦ (λ r. case-join 42 s [] r (λ e. omega arith) (λ e. omega arith) (h (42 ∷ r)) (every-none r))
+      | p-one (x → h) ↦ h
+      | p-seq {s = s} {t = t} (x → h) (y → k) ↦ (λ r. case-join 59 s t r (λ e. omega arith) (λ e. omega arith) (h (59 ∷ (t ++ r))) (k r))
+      | u-one (x → h) ↦ h
+      | u-plus {s = s} {t = t} (x → h) (y → k) ↦ (λ r. case-join 43 s t r (λ e. omega arith) (λ e. omega arith) (h (43 ∷ (t ++ r))) (k r))
+    ]
 
 every-at : (s r : List ℕ) (j : ℕ) → j < length s → Every s r → Begins (drop j s ++ r)
 unfolding Every

@@ -1,16 +1,16 @@
 -- The operand of a `!` has neither `:` nor `*` exactly when its policy is a predicate; by induction on derivations.
 use mathlib.Core.Path.{_≡_, refl, sym, ap, _∙_}
-use Prim.Native.Nat.{ℕ, zero, suc, _+_, _-_, _≤_, _<_}
+use Prim.Native.Nat.{ℕ, suc, _≤_, _<_}
 use native.Mathlib.Numerals.{add-one}
 use native.Mathlib.Omega.{arith}
 use mathlib.Core.List.{List, [], _∷_, _++_, append-assoc}
-use mathlib.Core.Bool.{Bool, true, false, cond, _&&_}
+use mathlib.Core.Bool.{Bool, true, false, cond, _&&_, and-true, and-false, and-assoc}
 use lib.Dec.{eqb}
 use borrow.Author.Tests.{ne-eqb}
 use Rattle.nodes.specs.Policies.{Policy, predicate?}
 use Rattle.texts.specs.Grammar.{Field, f-zero, f-one, f-two, Bit, b-zero, b-one}
-use Rattle.texts.specs.Grammar.{Atom, a-zero, a-one, a-test, a-assign, a-neg, a-paren, Starred, s-atom, s-star}
-use Rattle.texts.specs.Grammar.{Product, p-one, p-seq, Sum, u-one, u-plus}
+use Rattle.texts.specs.Grammar.{Atom, a-zero, a-one, a-test, a-assign, a-neg, a-paren, s-atom, s-star}
+use Rattle.texts.specs.Grammar.{p-one, p-seq, u-one, u-plus}
 use Rattle.texts.specs.Reading.{test?, open-after, clean-inside?, clean?}
 
 -- one byte inside a parenthesis
@@ -65,18 +65,6 @@ test-field : {f : List ℕ} {m : ℕ} (s : List ℕ) → Field f m → test? (f 
 test-field s f-zero = test-digit 48 s (omega arith) (omega arith)
 test-field s (f-one {a = a} g h) = test-digit a s (omega arith) h
 test-field s (f-two {a = a} {b = b} g h i j) = test-digit a (b ∷ s) (omega arith) h ∙ test-digit b s i j
-
-and-assoc : (x y z : Bool) → x && (y && z) ≡ (x && y) && z
-and-assoc true y z = refl
-and-assoc false y z = refl
-
-and-true : (x : Bool) → x && true ≡ x
-and-true true = refl
-and-true false = refl
-
-and-false : (x : Bool) → x && false ≡ false
-and-false true = refl
-and-false false = refl
 
 -- inside a parenthesis, and as an operand
 record Inside (s : List ℕ) (p : Policy) : Type 0 where
@@ -155,7 +143,7 @@ case-join {s = s} {t = t} {p = p} {q = q} b h x y r n =
     ap (λ (w : List ℕ). clean-inside? w (suc n)) (append-assoc s (b ∷ t) r)
     ∙ x .inside (b ∷ (t ++ r)) n
     ∙ ap (λ (c : Bool). predicate? p && c) (inside-plain b (t ++ r) n h ∙ y .inside r n)
-    ∙ and-assoc (predicate? p) (predicate? q) (clean-inside? r (suc n))
+    ∙ sym (and-assoc (predicate? p) (predicate? q) (clean-inside? r (suc n)))
 
 case-seq : {s t : List ℕ} {p q : Policy} → Inside s p → Inside t q → Inside (s ++ (59 ∷ t)) (Policy.seq p q)
 unfolding predicate?
@@ -164,7 +152,8 @@ case-seq x y = record { inside = λ r n. case-join 59 (other-plain 59 (omega ari
 case-plus : {s t : List ℕ} {p q : Policy} → Inside s p → Inside t q → Inside (s ++ (43 ∷ t)) (Policy.plus p q)
 unfolding predicate?
 case-plus x y = record {
-  inside = λ r n. case-join 43 (record { colon = λ e. omega arith; star = λ e. omega arith; opens = λ e. omega arith; closes = λ e. omega arith }) x y r n;
+  inside = λ r n. case-join 43 (record { colon = λ e. omega arith; star = λ e. omega arith; opens = λ e. omega arith; closes = λ e. omega arith })
+      x y r n;
 }
 
 operand : {d : ℕ} {s : List ℕ} {p : Policy} → Atom d s p → Operand s p

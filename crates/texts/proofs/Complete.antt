@@ -1,25 +1,29 @@
 -- Whatever follows the grammar is accepted, with its policy, and a text has one policy.
-use mathlib.Core.Path.{_≡_, refl, sym, ap, subst, _∙_}
-use Prim.Native.Nat.{ℕ, zero, suc, _+_, _-_, _*_, _≤_, _<_}
+use mathlib.Core.Path.{_≡_, refl, sym, ap, _∙_}
+use Prim.Native.Nat.{ℕ, suc, _+_, _-_, _*_, _≤_, _<_}
 use native.Mathlib.Omega.{arith}
-use native.Mathlib.Nat.{zero-add}
 use mathlib.Core.List.{List, [], _∷_, _++_, append-assoc, append-nil}
-use mathlib.Core.Bool.{Bool, true, false, cond, _&&_, _||_}
-use lib.Dec.{eqb, ltb, leb}
-use borrow.Author.Tests.{eq-eqb, ne-eqb, lt-ltb, le-leb}
+use mathlib.Core.Bool.{Bool, true, false}
+use borrow.Author.Tests.{ne-eqb, lt-ltb, le-leb}
 use Rattle.nodes.specs.Policies.{Policy}
-use Rattle.texts.specs.Grammar.{Field, f-zero, f-one, f-two, Bit, b-zero, b-one, Atom, a-zero, a-one, a-test, a-assign, a-neg, a-paren, Starred, s-atom, s-star, Product, p-one, p-seq, Sum, u-one, u-plus}
-use Rattle.texts.specs.Machine.{Acc, nothing, sofar, Frame, paren, Mid, name, digit, named, colon, bit, State, need, inside, post, MidStep, more, whole, not-mid, Step, go, stop, over, Out, accept, bad, deep, negs, join-seq, join-plus, nesting, digit?, leaf, after-name, mid-step, mid-go, close, step, final, onward, run, start, reads}
+use Rattle.texts.specs.Grammar.{Field, f-zero, f-one, f-two, Bit, b-zero, b-one, a-zero, a-one, a-test, a-assign, a-neg, a-paren, s-atom}
+use Rattle.texts.specs.Grammar.{s-star, p-one, p-seq, Sum, u-one, u-plus}
+use Rattle.texts.specs.Machine.{Acc, nothing, sofar, Frame, paren, name, digit, named, colon, bit, State, need, inside, post}
+use Rattle.texts.specs.Machine.{Step, go, accept, negs, join-seq, join-plus, nesting, digit?, leaf, after-name}
+use Rattle.texts.specs.Machine.{mid-step, mid-go, close, step, final, onward, run, start, reads}
+use Rattle.texts.proofs.Sound.{accept-same}
 
 pub run-cons : (L : ℕ) (q q′ : State) (at b : ℕ) (r : List ℕ) → step L q b ≡ go q′ → run L q at (b ∷ r) ≡ run L q′ (at + 1) r
 unfolding run onward
 run-cons L q q′ at b r e = ap (λ (k : Step). onward k (λ z. run L z (at + 1) r) at) e
 
 record AdvAtom (d : ℕ) (s : List ℕ) (p : Policy) : Type 0 where
-  adv : (L : ℕ) (sa pa : Acc) (n : ℕ) (σ : List Frame) (at : ℕ) (r : List ℕ) → n + nesting σ + d ≤ L → (e : ℕ) × (run L (need sa pa n σ) at (s ++ r) ≡ run L (post (negs n p) sa pa σ) e r)
+  adv : (L : ℕ) (sa pa : Acc) (n : ℕ) (σ : List Frame) (at : ℕ) (r : List ℕ) → n + nesting σ + d ≤ L
+      → (e : ℕ) × (run L (need sa pa n σ) at (s ++ r) ≡ run L (post (negs n p) sa pa σ) e r)
 
 record AdvStarred (d : ℕ) (s : List ℕ) (p : Policy) : Type 0 where
-  adv : (L : ℕ) (sa pa : Acc) (σ : List Frame) (at : ℕ) (r : List ℕ) → nesting σ + d ≤ L → (e : ℕ) × (run L (need sa pa 0 σ) at (s ++ r) ≡ run L (post p sa pa σ) e r)
+  adv : (L : ℕ) (sa pa : Acc) (σ : List Frame) (at : ℕ) (r : List ℕ) → nesting σ + d ≤ L
+      → (e : ℕ) × (run L (need sa pa 0 σ) at (s ++ r) ≡ run L (post p sa pa σ) e r)
 
 record AdvProduct (d : ℕ) (s : List ℕ) (p : Policy) : Type 0 where
   adv : (L : ℕ) (sa : Acc) (σ : List Frame) (at : ℕ) (r : List ℕ) → nesting σ + d ≤ L
@@ -27,7 +31,8 @@ record AdvProduct (d : ℕ) (s : List ℕ) (p : Policy) : Type 0 where
 
 record AdvSum (d : ℕ) (s : List ℕ) (p : Policy) : Type 0 where
   adv : (L : ℕ) (σ : List Frame) (at : ℕ) (r : List ℕ) → nesting σ + d ≤ L
-      → (sa : Acc) × (pa : Acc) × (v : Policy) × (e : ℕ) × (join-plus sa (join-seq pa v) ≡ p) × (run L (need nothing nothing 0 σ) at (s ++ r) ≡ run L (post v sa pa σ) e r)
+      → (sa : Acc) × (pa : Acc) × (v : Policy) × (e : ℕ) × (join-plus sa (join-seq pa v) ≡ p) ×
+      (run L (need nothing nothing 0 σ) at (s ++ r) ≡ run L (post v sa pa σ) e r)
 
 digit-true : (b : ℕ) → 48 ≤ b → b ≤ 57 → digit? b ≡ true
 digit-true b h k = simp (le-leb _ _ h, le-leb _ _ k)
@@ -38,14 +43,20 @@ module _ (L : ℕ) (sa pa : Acc) (n : ℕ) (σ : List Frame) where
       → (e : ℕ) × (run L (inside name sa pa n σ) at (f ++ (c ∷ r)) ≡ run L (inside (named k) sa pa n σ) e (c ∷ r))
   unfolding step mid-step mid-go run
   adv-field at c r h f-zero = (at + 1, run-cons L (inside name sa pa n σ) (inside (named 0) sa pa n σ) at 48 (c ∷ r) refl)
-  adv-field at c r h (f-one {a = a} g k) = (at + 1, run-cons L (inside name sa pa n σ) (inside (digit (a - 48)) sa pa n σ) at a (c ∷ r) (simp (ne-eqb a 48 (λ e. omega arith), digit-true a (omega arith) k)) ∙ simp h)
+  adv-field at c r h (f-one {a = a} g k) = (
+    at + 1,
+    run-cons L (inside name sa pa n σ) (inside (digit (a - 48)) sa pa n σ) at a (c ∷ r)
+        (simp (ne-eqb a 48 (λ e. omega arith), digit-true a (omega arith) k)) ∙ simp h,
+  )
   adv-field at c r h (f-two {a = a} {b = b} g k i j) = (
     at + 1 + 1,
-    run-cons L (inside name sa pa n σ) (inside (digit (a - 48)) sa pa n σ) at a (b ∷ c ∷ r) (simp (ne-eqb a 48 (λ e. omega arith), digit-true a (omega arith) k))
+    run-cons L (inside name sa pa n σ) (inside (digit (a - 48)) sa pa n σ) at a (b ∷ c ∷ r)
+        (simp (ne-eqb a 48 (λ e. omega arith), digit-true a (omega arith) k))
         ∙ run-cons L (inside (digit (a - 48)) sa pa n σ) (inside (named ((a - 48) * 10 + (b - 48))) sa pa n σ) (at + 1) b (c ∷ r) (simp (digit-true b i j)),
   )
 
-  adv-bit : {c : ℕ} {v : Bool} (k : Bool) (m at : ℕ) (r : List ℕ) → Bit c v → run L (inside (bit k m) sa pa n σ) at (c ∷ r) ≡ run L (post (negs n (leaf k m v)) sa pa σ) (at + 1) r
+  adv-bit : {c : ℕ} {v : Bool} (k : Bool) (m at : ℕ) (r : List ℕ) → Bit c v
+      → run L (inside (bit k m) sa pa n σ) at (c ∷ r) ≡ run L (post (negs n (leaf k m v)) sa pa σ) (at + 1) r
   unfolding step mid-step mid-go
   adv-bit k m at r b-zero = run-cons L (inside (bit k m) sa pa n σ) (post (negs n (leaf k m false)) sa pa σ) at 48 r refl
   adv-bit k m at r b-one = run-cons L (inside (bit k m) sa pa n σ) (post (negs n (leaf k m true)) sa pa σ) at 49 r refl
@@ -104,7 +115,8 @@ case-paren {s = s} {p = p} l a = record {
         run-cons L (need sa pa n σ) (need nothing nothing 0 (paren sa pa n ∷ σ)) at 40 ((s ++ (41 ∷ [])) ++ r) (simp (lt-ltb (n + nesting σ) L (omega arith)))
             ∙ ap (λ (w : List ℕ). run L (need nothing nothing 0 (paren sa pa n ∷ σ)) (at + 1) w) (append-assoc s (41 ∷ []) r)
             ∙ u .5
-            ∙ run-cons L (post (u .2) (u .0) (u .1) (paren sa pa n ∷ σ)) (post (negs n p) sa pa σ) (u .3) 41 r (ap (λ (k : Policy). go (post (negs n k) sa pa σ)) (u .4)),
+            ∙ run-cons L (post (u .2) (u .0) (u .1) (paren sa pa n ∷ σ)) (post (negs n p) sa pa σ) (u .3) 41 r
+            (ap (λ (k : Policy). go (post (negs n k) sa pa σ)) (u .4)),
       );
 }
 
@@ -159,7 +171,8 @@ case-plus {s = s} {t = t} {p = p} {q = q} a b = record {
         w .2,
         ap (λ (k : Policy). Policy.plus p k) (w .3),
         ap (λ (x : List ℕ). run L (need nothing nothing 0 σ) at x) (append-assoc s (43 ∷ t) r)
-            ∙ u .5 ∙ run-cons L (post (u .2) (u .0) (u .1) σ) (need (sofar p) nothing 0 σ) (u .3) 43 (t ++ r) (ap (λ (k : Policy). go (need (sofar k) nothing 0 σ)) (u .4))
+            ∙ u .5 ∙ run-cons L (post (u .2) (u .0) (u .1) σ) (need (sofar p) nothing 0 σ) (u .3) 43 (t ++ r)
+            (ap (λ (k : Policy). go (need (sofar k) nothing 0 σ)) (u .4))
             ∙ w .4,
       );
 }
@@ -191,9 +204,6 @@ complete-at {t = t} L h a =
 pub complete : (t : List ℕ) (p : Policy) → Sum 32 t p → reads t ≡ accept p
 unfolding reads
 complete t p a = complete-at 32 (omega arith) a
-
-accept-same : {p q : Policy} → accept p ≡ accept q → p ≡ q
-accept-same e = cc
 
 -- a text has one policy, at whatever depth it is read
 pub unambiguous : {d e : ℕ} {t : List ℕ} {p q : Policy} → Sum d t p → Sum e t q → p ≡ q

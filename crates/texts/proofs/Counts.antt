@@ -1,16 +1,16 @@
 -- A rule holds of a policy exactly when no byte of its text breaks it: once for every rule that a test on the text decides, from the
 -- test's answers at `x` and at `!`, by induction on derivations. Then the rules on fields and on negations.
 use mathlib.Core.Path.{_≡_, refl, sym, ap, _∙_}
-use Prim.Native.Nat.{ℕ, zero, suc, _+_, _-_, _*_, _≤_, _<_}
+use Prim.Native.Nat.{ℕ, _+_, _-_, _*_}
 use native.Mathlib.Omega.{arith}
 use mathlib.Core.List.{List, [], _∷_, _++_, append-assoc}
-use mathlib.Core.Bool.{Bool, true, false, cond, not, _&&_}
-use lib.Dec.{eqb, leb, ltb}
+use mathlib.Core.Bool.{Bool, true, false, cond, not, _&&_, and-true, and-assoc, Bool·not-not}
+use lib.Dec.{leb, ltb}
 use borrow.Author.Tests.{ne-eqb, le-leb, leb-true, leb-false, lt-ltb, le-ltb}
 use Rattle.nodes.specs.Policies.{Policy, predicate?, negates-predicates?, fields-below?}
 use Rattle.texts.specs.Grammar.{Field, f-zero, f-one, f-two, Bit, b-zero, b-one}
-use Rattle.texts.specs.Grammar.{Atom, a-zero, a-one, a-test, a-assign, a-neg, a-paren, Starred, s-atom, s-star}
-use Rattle.texts.specs.Grammar.{Product, p-one, p-seq, Sum, u-one, u-plus}
+use Rattle.texts.specs.Grammar.{Atom, a-zero, a-one, a-test, a-assign, a-neg, a-paren, s-atom, s-star}
+use Rattle.texts.specs.Grammar.{p-one, p-seq, Sum, u-one, u-plus}
 use Rattle.texts.specs.Machine.{digit?}
 use Rattle.texts.specs.Reading.{number, no-field?, clean?, offends?}
 use Rattle.texts.proofs.Clean.{clean-atom}
@@ -32,21 +32,13 @@ pub record Finds (R : Policy → Bool) (P : List ℕ → Bool) : Type 0 where
   seq : (p q : Policy) → R (Policy.seq p q) ≡ R p && R q
   stars : (p : Policy) → R (Policy.stars p) ≡ R p
 
-and-true : (x : Bool) → x && true ≡ x
-and-true true = refl
-and-true false = refl
-
 none-append : (P : List ℕ → Bool) (s t r : List ℕ) → none P (s ++ t) r ≡ none P s (t ++ r) && none P t r
 unfolding none
 none-append P [] t r = refl
 none-append P (b ∷ s) t r =
     ap (λ (w : List ℕ). not (P (b ∷ w)) && none P (s ++ t) r) (append-assoc s t r)
     ∙ ap (λ (x : Bool). not (P (b ∷ (s ++ (t ++ r)))) && x) (none-append P s t r)
-    ∙ assoc (not (P (b ∷ (s ++ (t ++ r))))) (none P s (t ++ r)) (none P t r)
-  where
-    assoc : (x y z : Bool) → x && (y && z) ≡ (x && y) && z
-    assoc true y z = refl
-    assoc false y z = refl
+    ∙ sym (and-assoc (not (P (b ∷ (s ++ (t ++ r))))) (none P s (t ++ r)) (none P t r))
 
 module _ (R : Policy → Bool) (P : List ℕ → Bool) (F : Finds R P) where
   none-other : (b : ℕ) (s r : List ℕ) → (b ≡ 120 → ⊥) → (b ≡ 33 → ⊥) → none P (b ∷ s) r ≡ none P s r
@@ -70,9 +62,9 @@ module _ (R : Policy → Bool) (P : List ℕ → Bool) (F : Finds R P) where
   case-test {c = c} {f = f} {v = v} g b r =
       F .tests v (c ∷ r) g
       ∙ sym (ap (λ (w : List ℕ). not (P (120 ∷ w)) && none P (f ++ (61 ∷ c ∷ [])) r) (append-assoc f (61 ∷ c ∷ []) r)
-          ∙ ap (λ (x : Bool). not (P (120 ∷ (f ++ (61 ∷ c ∷ r)))) && x)
-              (none-field (61 ∷ c ∷ []) r g ∙ none-other 61 (c ∷ []) r (λ e. omega arith) (λ e. omega arith) ∙ none-bit r b)
-          ∙ and-true (not (P (120 ∷ (f ++ (61 ∷ c ∷ r))))))
+      ∙ ap (λ (x : Bool). not (P (120 ∷ (f ++ (61 ∷ c ∷ r)))) && x)
+      (none-field (61 ∷ c ∷ []) r g ∙ none-other 61 (c ∷ []) r (λ e. omega arith) (λ e. omega arith) ∙ none-bit r b)
+      ∙ and-true (not (P (120 ∷ (f ++ (61 ∷ c ∷ r))))))
 
   case-assign : {n c : ℕ} {f : List ℕ} {v : Bool} → Field f n → Bit c v → (r : List ℕ)
       → R (Policy.assigns n v) ≡ none P (120 ∷ (f ++ (58 ∷ 61 ∷ c ∷ []))) r
@@ -80,12 +72,12 @@ module _ (R : Policy → Bool) (P : List ℕ → Bool) (F : Finds R P) where
   case-assign {c = c} {f = f} {v = v} g b r =
       F .assigns v (61 ∷ c ∷ r) g
       ∙ sym (ap (λ (w : List ℕ). not (P (120 ∷ w)) && none P (f ++ (58 ∷ 61 ∷ c ∷ [])) r) (append-assoc f (58 ∷ 61 ∷ c ∷ []) r)
-          ∙ ap (λ (x : Bool). not (P (120 ∷ (f ++ (58 ∷ 61 ∷ c ∷ r)))) && x)
-              (none-field (58 ∷ 61 ∷ c ∷ []) r g
-              ∙ none-other 58 (61 ∷ c ∷ []) r (λ e. omega arith) (λ e. omega arith)
-              ∙ none-other 61 (c ∷ []) r (λ e. omega arith) (λ e. omega arith)
-              ∙ none-bit r b)
-          ∙ and-true (not (P (120 ∷ (f ++ (58 ∷ 61 ∷ c ∷ r))))))
+      ∙ ap (λ (x : Bool). not (P (120 ∷ (f ++ (58 ∷ 61 ∷ c ∷ r)))) && x)
+      (none-field (58 ∷ 61 ∷ c ∷ []) r g
+      ∙ none-other 58 (61 ∷ c ∷ []) r (λ e. omega arith) (λ e. omega arith)
+      ∙ none-other 61 (c ∷ []) r (λ e. omega arith) (λ e. omega arith)
+      ∙ none-bit r b)
+      ∙ and-true (not (P (120 ∷ (f ++ (58 ∷ 61 ∷ c ∷ r))))))
 
   case-neg : {d : ℕ} {s : List ℕ} {p : Policy} → Atom d s p → ((r : List ℕ) → R p ≡ none P s r) → (r : List ℕ)
       → R (Policy.negates p) ≡ none P (33 ∷ s) r
@@ -112,20 +104,20 @@ module _ (R : Policy → Bool) (P : List ℕ → Bool) (F : Finds R P) where
   unfolding none
   finds a = elim a as (λ d s p x. (r : List ℕ) → R p ≡ none P s r) (λ d s p x. (r : List ℕ) → R p ≡ none P s r)
       (λ d s p x. (r : List ℕ) → R p ≡ none P s r) (λ d s p x. (r : List ℕ) → R p ≡ none P s r) [
-    | a-zero ↦ (λ r. F .fail ∙ sym (none-other 48 [] r (λ e. omega arith) (λ e. omega arith)))
-    | a-one ↦ (λ r. F .skip ∙ sym (none-other 49 [] r (λ e. omega arith) (λ e. omega arith)))
-    | a-test f b ↦ case-test f b
-    | a-assign f b ↦ case-assign f b
-    | a-neg l (x → h) ↦ case-neg x h
-    | a-paren {s = s} {p = p} l (x → h) ↦ (λ r. case-last s p 41 (λ e. omega arith) (λ e. omega arith) h r
-        ∙ sym (none-other 40 (s ++ (41 ∷ [])) r (λ e. omega arith) (λ e. omega arith)))
-    | s-atom (x → h) ↦ h
-    | s-star {s = s} {p = p} (x → h) ↦ (λ r. F .stars p ∙ case-last s p 42 (λ e. omega arith) (λ e. omega arith) h r)
-    | p-one (x → h) ↦ h
-    | p-seq {s = s} {t = t} {p = p} {q = q} (x → h) (y → k) ↦ (λ r. F .seq p q ∙ case-join s t p q 59 (λ e. omega arith) (λ e. omega arith) h k r)
-    | u-one (x → h) ↦ h
-    | u-plus {s = s} {t = t} {p = p} {q = q} (x → h) (y → k) ↦ (λ r. F .plus p q ∙ case-join s t p q 43 (λ e. omega arith) (λ e. omega arith) h k r)
-  ]
+        | a-zero ↦ (λ r. F .fail ∙ sym (none-other 48 [] r (λ e. omega arith) (λ e. omega arith)))
+        | a-one ↦ (λ r. F .skip ∙ sym (none-other 49 [] r (λ e. omega arith) (λ e. omega arith)))
+        | a-test f b ↦ case-test f b
+        | a-assign f b ↦ case-assign f b
+        | a-neg l (x → h) ↦ case-neg x h
+        | a-paren {s = s} {p = p} l (x → h) ↦ (λ r. case-last s p 41 (λ e. omega arith) (λ e. omega arith) h r
+            ∙ sym (none-other 40 (s ++ (41 ∷ [])) r (λ e. omega arith) (λ e. omega arith)))
+        | s-atom (x → h) ↦ h
+        | s-star {s = s} {p = p} (x → h) ↦ (λ r. F .stars p ∙ case-last s p 42 (λ e. omega arith) (λ e. omega arith) h r)
+        | p-one (x → h) ↦ h
+        | p-seq {s = s} {t = t} {p = p} {q = q} (x → h) (y → k) ↦ (λ r. F .seq p q ∙ case-join s t p q 59 (λ e. omega arith) (λ e. omega arith) h k r)
+        | u-one (x → h) ↦ h
+        | u-plus {s = s} {t = t} {p = p} {q = q} (x → h) (y → k) ↦ (λ r. F .plus p q ∙ case-join s t p q 43 (λ e. omega arith) (λ e. omega arith) h k r)
+      ]
 
 -- N as its bytes give it, before a byte that is no digit
 pub number-field : {f : List ℕ} {n : ℕ} (c : ℕ) (s : List ℕ) → digit? c ≡ false → Field f n → number (f ++ (c ∷ s)) ≡ n
@@ -163,12 +155,9 @@ negations-found = record {
   skip = refl;
   tests = λ v s g. refl;
   assigns = λ v s g. refl;
-  negates = λ {d} {s} {p} r a. ap (λ (x : Bool). x && negates-predicates? p) (twice (predicate? p) ∙ ap (λ (x : Bool). not (not x)) (sym (clean-atom a r)));
+  negates = λ {d} {s} {p} r a.
+      ap (λ (x : Bool). x && negates-predicates? p) (sym (Bool·not-not (predicate? p)) ∙ ap (λ (x : Bool). not (not x)) (sym (clean-atom a r)));
   plus = λ p q. refl;
   seq = λ p q. refl;
   stars = λ p. refl;
 }
-  where
-    twice : (x : Bool) → x ≡ not (not x)
-    twice true = refl
-    twice false = refl

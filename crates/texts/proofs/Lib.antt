@@ -9,3 +9,5 @@ pub mod Counts
 pub mod Begins
 pub mod Says
 pub mod Worked
+pub mod Searches
+pub mod Only

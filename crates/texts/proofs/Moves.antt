@@ -1,21 +1,22 @@
 -- How the run moves on at an offset of the text, and what that makes of the functions' promises.
 use mathlib.Core.Path.{_≡_, refl, sym, ap, subst, _∙_}
-use Prim.Native.Nat.{ℕ, zero, suc, _+_, _≤_, _<_}
+use Prim.Native.Nat.{ℕ, suc, _+_, _≤_, _<_}
 use native.Mathlib.Numerals.{add-one}
 use native.Mathlib.Omega.{arith}
 use mathlib.Core.List.{List, [], _∷_}
-use mathlib.Core.Bool.{Bool, true, false, cond, _||_, true≢false}
+use mathlib.Core.Bool.{Bool, true, false, _||_, true≢false}
 use lib.ListN.{length, drop, getD}
 use lib.Seq.{drop-cons, drop-length}
 use borrow.Author.Tests.{eq-eqb, ne-eqb, lt-ltb, le-ltb, eqb-true, eqb-false}
 use Rattle.nodes.specs.Policies.{Policy}
 use mathlib.Core.Logic.{_⊎_, inl, inr}
-use native.Mathlib.Nat.{zero-add, suc-add}
-use lib.Dec.{eqb, ltb}
+use native.Mathlib.Nat.{zero-add}
+use lib.Dec.{eqb}
 use denote.Enum.Declared.{tagOf, declared}
 use Rattle.texts.proofs.syntax.Read.{enum}
-use Rattle.texts.specs.Machine.{Acc, nothing, sofar, paren, negs, join-seq, join-plus, close, Frame, State, Mid, need, inside, post, Out, accept, bad, deep, nesting, run, reads, step, final, start, onward, go, stop, over, Step}
-use Rattle.texts.specs.Posts.{after-starred, after-product, after-sum, run-at, Open, AtomPost, JoinPost, StarsPost, read-of}
+use Rattle.texts.specs.Machine.{Acc, nothing, sofar, paren, negs, join-seq, join-plus, close, Frame, State, need, post, Out, accept, bad}
+use Rattle.texts.specs.Machine.{deep, nesting, run, reads, step, final, start, onward, go, stop, over, Step}
+use Rattle.texts.specs.Posts.{after-starred, after-sum, run-at, Open, AtomPost, JoinPost, StarsPost, read-of}
 use Rattle.texts.specs.declared.syntax.Read.{Read}
 use Rattle.texts.specs.declared.syntax.Read.the-variants.{End, Bad, Deep}
 
@@ -83,7 +84,8 @@ step-after-all v sa pa b e = by (eqb b 41) refl
 module _ (t : List ℕ) where
   pub run-step : (q : State) (at : ℕ) → at < length t → run-at t q at ≡ onward (step 32 q (getD t at 0)) (λ r. run-at t r (at + 1)) at
   unfolding run-at run
-  run-step q at h = ap (λ (s : List ℕ). run 32 q at s) (drop-cons t at 0 h) ∙ ap (λ (k : ℕ). onward (step 32 q (getD t at 0)) (λ r. run 32 r (at + 1) (drop k t)) at) (sym (add-one at))
+  run-step q at h = ap (λ (s : List ℕ). run 32 q at s) (drop-cons t at 0 h)
+      ∙ ap (λ (k : ℕ). onward (step 32 q (getD t at 0)) (λ r. run 32 r (at + 1) (drop k t)) at) (sym (add-one at))
 
   pub run-go : (q r : State) (at : ℕ) → at < length t → step 32 q (getD t at 0) ≡ go r → run-at t q at ≡ run-at t r (at + 1)
   unfolding onward
@@ -106,7 +108,12 @@ module _ (t : List ℕ) where
       → ((sa pa : Acc) (n : ℕ) (σ : List Frame) → step 32 (q sa pa n σ) (getD t at 0) ≡ go (r sa pa n σ))
       → AtomPost t d r (at + 1) x → AtomPost t d q at x
   unfolding AtomPost
-  atom-go d q r at (End e) h s a = (omega (arith, a .0), a .1, λ sa pa n σ g. let u = a .2 sa pa n σ g in (u .0, run-go (q sa pa n σ) (r sa pa n σ) at h (s sa pa n σ) ∙ u .1))
+  atom-go d q r at (End e) h s a = (
+    omega (arith, a .0),
+    a .1,
+    λ sa pa n σ g. let u = a .2 sa pa n σ g in
+        (u .0, run-go (q sa pa n σ) (r sa pa n σ) at h (s sa pa n σ) ∙ u .1),
+  )
   atom-go d q r at (Bad i) h s a = λ sa pa n σ g. run-go (q sa pa n σ) (r sa pa n σ) at h (s sa pa n σ) ∙ a sa pa n σ g
   atom-go d q r at (Deep i) h s a = λ sa pa n σ g. run-go (q sa pa n σ) (r sa pa n σ) at h (s sa pa n σ) ∙ a sa pa n σ g
 
@@ -137,7 +144,12 @@ module _ (t : List ℕ) where
       → ((sa pa : Acc) (n : ℕ) (σ : List Frame) → step 32 (q sa pa n σ) (getD t at 0) ≡ step 32 (r sa pa n σ) (getD t at 0))
       → AtomPost t d r at x → AtomPost t d q at x
   unfolding AtomPost
-  atom-same d q r at (End e) h s a = (a .0, a .1, λ sa pa n σ g. let u = a .2 sa pa n σ g in (u .0, run-same (q sa pa n σ) (r sa pa n σ) at h (s sa pa n σ) ∙ u .1))
+  atom-same d q r at (End e) h s a = (
+    a .0,
+    a .1,
+    λ sa pa n σ g. let u = a .2 sa pa n σ g in
+        (u .0, run-same (q sa pa n σ) (r sa pa n σ) at h (s sa pa n σ) ∙ u .1),
+  )
   atom-same d q r at (Bad i) h s a = λ sa pa n σ g. run-same (q sa pa n σ) (r sa pa n σ) at h (s sa pa n σ) ∙ a sa pa n σ g
   atom-same d q r at (Deep i) h s a = λ sa pa n σ g. run-same (q sa pa n σ) (r sa pa n σ) at h (s sa pa n σ) ∙ a sa pa n σ g
 
@@ -151,7 +163,8 @@ module _ (t : List ℕ) where
 
   pub stars-more : (at i : ℕ) → i < length t → getD t i 0 ≡ 42 → Stars at i → Stars at (i + 1)
   unfolding Stars step
-  stars-more at i h e s v sa pa σ = let u = s v sa pa σ in (Policy.stars (u .0), u .1 ∙ run-go (post (u .0) sa pa σ) (post (Policy.stars (u .0)) sa pa σ) i h (simp (eq-eqb _ _ e)))
+  stars-more at i h e s v sa pa σ = let u = s v sa pa σ in
+      (Policy.stars (u .0), u .1 ∙ run-go (post (u .0) sa pa σ) (post (Policy.stars (u .0)) sa pa σ) i h (simp (eq-eqb _ _ e)))
 
   pub stars-post : (at i : ℕ) → at ≤ i → i ≤ length t → (i < length t → getD t i 0 ≡ 42 → ⊥) → Stars at i → StarsPost t at i
   unfolding Stars StarsPost
@@ -160,7 +173,13 @@ module _ (t : List ℕ) where
   -- joins
   pub join-stars : (d at e r : ℕ) → AtomPost t d need at (End e) → StarsPost t e r → JoinPost after-starred t d at (End r)
   unfolding AtomPost JoinPost StarsPost
-  join-stars d at e r a s = (omega (arith, a .0, s .0), s .1, s .2, λ sa pa σ g. let u = a .2 sa pa 0 σ (zero-add _ ∙ g) in let w = s .3 (u .0) sa pa σ in (sa, pa, w .0, u .1 ∙ w .1))
+  join-stars d at e r a s = (
+    omega (arith, a .0, s .0),
+    s .1,
+    s .2,
+    λ sa pa σ g. let u = a .2 sa pa 0 σ (zero-add _ ∙ g) in let w = s .3 (u .0) sa pa σ in
+        (sa, pa, w .0, u .1 ∙ w .1),
+  )
 
   pub join-atom-refused : (g : ℕ → Bool) (d at : ℕ) (x : Read) → Refused x → AtomPost t d need at x → JoinPost g t d at x
   unfolding AtomPost JoinPost
@@ -174,7 +193,8 @@ module _ (t : List ℕ) where
   join-refused g h d at (Bad e) r a = a
   join-refused g h d at (Deep e) r a = a
 
-  pub join-stop : (g h : ℕ → Bool) (d at e : ℕ) → (e < length t → g (getD t e 0) ≡ false → h (getD t e 0) ≡ false) → JoinPost g t d at (End e) → JoinPost h t d at (End e)
+  pub join-stop : (g h : ℕ → Bool) (d at e : ℕ) → (e < length t → g (getD t e 0) ≡ false → h (getD t e 0) ≡ false) → JoinPost g t d at (End e)
+      → JoinPost h t d at (End e)
   unfolding JoinPost
   join-stop g h d at e f a = (a .0, a .1, (λ l. f l (a .2 l)), a .3)
 
@@ -243,7 +263,12 @@ module _ (t : List ℕ) where
   -- `!` and an atom
   pub atom-bang : (d at : ℕ) (x : Read) → at < length t → getD t at 0 ≡ 33 → d < 32 → AtomPost t (d + 1) need (at + 1) x → AtomPost t d need at x
   unfolding AtomPost
-  atom-bang d at (End e) h b l a = (omega (arith, a .0), a .1, λ sa pa n σ g. let u = a .2 sa pa (suc n) σ (omega arith) in (u .0, run-go _ _ at h (step-bang sa pa n σ _ b (omega arith)) ∙ u .1))
+  atom-bang d at (End e) h b l a = (
+    omega (arith, a .0),
+    a .1,
+    λ sa pa n σ g. let u = a .2 sa pa (suc n) σ (omega arith) in
+        (u .0, run-go _ _ at h (step-bang sa pa n σ _ b (omega arith)) ∙ u .1),
+  )
   atom-bang d at (Bad i) h b l a = λ sa pa n σ g. run-go _ _ at h (step-bang sa pa n σ _ b (omega arith)) ∙ a sa pa (suc n) σ (omega arith)
   atom-bang d at (Deep i) h b l a = λ sa pa n σ g. run-go _ _ at h (step-bang sa pa n σ _ b (omega arith)) ∙ a sa pa (suc n) σ (omega arith)
 
@@ -254,7 +279,8 @@ module _ (t : List ℕ) where
 
   -- `(`, a sum, and `)`, or what stands in its place
   module _ (d at : ℕ) (h : at < length t) (b : getD t at 0 ≡ 40) (l : d < 32) where
-    opened : (sa pa : Acc) (n : ℕ) (σ : List Frame) → n + nesting σ ≡ d → run-at t (need sa pa n σ) at ≡ run-at t (need nothing nothing 0 (paren sa pa n ∷ σ)) (at + 1)
+    opened : (sa pa : Acc) (n : ℕ) (σ : List Frame) → n + nesting σ ≡ d
+        → run-at t (need sa pa n σ) at ≡ run-at t (need nothing nothing 0 (paren sa pa n ∷ σ)) (at + 1)
     opened sa pa n σ g = run-go _ _ at h (step-open sa pa n σ _ b (omega arith))
 
     within : (sa pa : Acc) (n : ℕ) (σ : List Frame) → n + nesting σ ≡ d → nesting (paren sa pa n ∷ σ) ≡ d + 1
@@ -273,8 +299,11 @@ module _ (t : List ℕ) where
       omega (arith, a .0),
       omega arith,
       λ sa pa n σ g.
-          let u = a .3 nothing nothing (paren sa pa n ∷ σ) (within sa pa n σ g) in
-          (negs n (join-plus (u .0) (join-seq (u .1) (u .2))), opened sa pa n σ g ∙ u .3 ∙ run-go _ _ e k (step-close (u .2) (u .0) (u .1) (paren sa pa n ∷ σ) _ c)),
+          let u = a .3 nothing nothing (paren sa pa n ∷ σ) (within sa pa n σ g) in (
+            negs n (join-plus (u .0) (join-seq (u .1) (u .2))),
+            opened sa pa n σ g ∙ u .3 ∙ run-go _ _ e k
+                (step-close (u .2) (u .0) (u .1) (paren sa pa n ∷ σ) _ c),
+          ),
     )
 
     pub paren-ends : (e : ℕ) → JoinPost after-sum t (d + 1) (at + 1) (End e) → e ≡ length t → AtomPost t d need at (Bad e)
@@ -304,7 +333,8 @@ module _ (t : List ℕ) where
   unfolding JoinPost nesting read-of final
   whole-ends e a k =
       let u = a .3 nothing nothing [] refl in
-      ap End k ∙ sym (ap (read-of (length t)) (whole-from (accept (join-plus (u .0) (join-seq (u .1) (u .2)))) (u .3 ∙ run-end (post (u .2) (u .0) (u .1) []) e k)))
+      ap End k ∙ sym (ap (read-of (length t)) (whole-from (accept (join-plus (u .0) (join-seq (u .1) (u .2))))
+      (u .3 ∙ run-end (post (u .2) (u .0) (u .1) []) e k)))
 
   pub whole-stops : (e : ℕ) → JoinPost after-sum t 0 0 (End e) → (e ≡ length t → ⊥) → Bad e ≡ read-of (length t) (reads t)
   unfolding JoinPost nesting read-of

@@ -1,16 +1,18 @@
 -- Where a text is refused: up to there it can be gone on with, and one byte further it cannot.
 use mathlib.Core.Path.{_≡_, refl, sym, ap, subst, _∙_}
-use Prim.Native.Nat.{ℕ, zero, suc, _+_, _-_, _*_, _≤_, _<_}
+use Prim.Native.Nat.{ℕ, suc, _+_, _≤_, _<_}
 use native.Mathlib.Omega.{arith}
-use mathlib.Core.List.{List, [], _∷_, _++_, append-assoc, append-nil}
-use mathlib.Core.Bool.{Bool, true, false, cond, _&&_, _||_}
+use mathlib.Core.List.{List, [], _∷_, _++_, append-assoc}
+use mathlib.Core.Bool.{Bool, true, false, cond}
 use lib.ListN.{length, take, length-append}
 use lib.Seq.{take-at}
-use lib.Dec.{eqb, ltb, leb}
-use borrow.Author.Tests.{eqb-true, ltb-true, ltb-false, lt-ltb}
+use lib.Dec.{eqb, ltb}
+use borrow.Author.Tests.{ltb-true, lt-ltb}
 use Rattle.nodes.specs.Policies.{Policy}
-use Rattle.texts.specs.Grammar.{Sum, Extends, NotPolicy, TooDeep}
-use Rattle.texts.specs.Machine.{Acc, nothing, sofar, Frame, paren, Mid, name, digit, named, colon, bit, State, need, inside, post, MidStep, more, whole, not-mid, Step, go, stop, over, Out, accept, bad, deep, negs, join-seq, join-plus, nesting, digit?, leaf, after-name, mid-step, mid-go, close, step, final, onward, run, start, reads}
+use Rattle.texts.specs.Grammar.{Extends, NotPolicy, TooDeep}
+use Rattle.texts.specs.Machine.{Acc, nothing, Frame, paren, Mid, name, digit, named, colon, bit, State, need, inside, post, MidStep, more, whole}
+use Rattle.texts.specs.Machine.{not-mid, Step, go, stop, over, Out, accept, bad, deep, negs, join-seq, join-plus, nesting, leaf, after-name}
+use Rattle.texts.specs.Machine.{mid-step, mid-go, close, step, final, onward, run, start, reads}
 use Rattle.texts.proofs.Sound.{sound-at, bad≢accept, deep≢accept}
 use Rattle.texts.proofs.Complete.{run-cons, complete-at}
 
@@ -117,7 +119,8 @@ stays L (need sa pa n σ) b h =
     tt))))
 stays L (inside m sa pa n σ) b h = stays-mid L (mid-step m b) sa pa n σ h
 stays L (post v sa pa σ) b h =
-    stays-if (Stays L) (eqb b 42) (λ _. h) (stays-if (Stays L) (eqb b 59) (λ _. omega arith) (stays-if (Stays L) (eqb b 43) (λ _. omega arith) (stays-if (Stays L) (eqb b 41) (λ _. stays-close L v sa pa σ h) tt)))
+    stays-if (Stays L) (eqb b 42) (λ _. h) (stays-if (Stays L) (eqb b 59) (λ _. omega arith)
+    (stays-if (Stays L) (eqb b 43) (λ _. omega arith) (stays-if (Stays L) (eqb b 41) (λ _. stays-close L v sa pa σ h) tt)))
 
 -- Where a run is refused: the text before that place, the state there, and what follows.
 abbrev halt : Bool → ℕ → Out
@@ -148,7 +151,16 @@ bad≢deep : {i j : ℕ} → bad i ≡ deep j → ⊥
 bad≢deep e = let z : _≡_ {A = ℕ} 0 1 = cc in omega arith
 
 here : (L : ℕ) (k : Bool) (q : State) (at : ℕ) (s : List ℕ) (i : ℕ) → Within L q → at ≡ i → Ends L k q i s → Reached L k q at s i
-here L k q at s i w e h = record { front = []; back = s; state = q; split = refl; offset = omega arith; runs = (λ K l r. ap (λ (a : ℕ). run K q a r) e); within = w; ends = h }
+here L k q at s i w e h = record {
+  front = [];
+  back = s;
+  state = q;
+  split = refl;
+  offset = omega arith;
+  runs = (λ K l r. ap (λ (a : ℕ). run K q a r) e);
+  within = w;
+  ends = h;
+}
 
 final-bad : (q : State) (at i : ℕ) → final q at ≡ bad i → at ≡ i
 unfolding final
@@ -190,7 +202,8 @@ unfolding run onward
 reached L k [] q at i w e = reached-end L k q at i w e
 reached L k (b ∷ s) q at i w e = by k (step L q b) refl (stays L q b w) (λ q′ w′ e′. reached L k s q′ (at + 1) i w′ e′) e
   where
-    by : (k : Bool) (x : Step) → step L q b ≡ x → Stays L x → ((q′ : State) → Within L q′ → run L q′ (at + 1) s ≡ halt k i → Reached L k q′ (at + 1) s i) → onward x (λ z. run L z (at + 1) s) at ≡ halt k i → Reached L k q at (b ∷ s) i
+    by : (k : Bool) (x : Step) → step L q b ≡ x → Stays L x → ((q′ : State) → Within L q′ → run L q′ (at + 1) s ≡ halt k i → Reached L k q′ (at + 1) s i)
+        → onward x (λ z. run L z (at + 1) s) at ≡ halt k i → Reached L k q at (b ∷ s) i
     by k (go q′) h st f e = further L k q q′ at b s i h (f q′ st e)
     by true stop h st f e = here L true q at (b ∷ s) i w (halt-same true at i e) h
     by false stop h st f e = absurd (bad≢deep e)
@@ -201,7 +214,8 @@ take-front : (s front back : List ℕ) (i : ℕ) → s ≡ front ++ back → i �
 take-front s front back i e h = ap (λ (x : List ℕ). take i x) e ∙ take-at front back i (omega arith)
 
 take-next : (s front back : List ℕ) (b i : ℕ) → s ≡ front ++ (b ∷ back) → i ≡ 0 + length front → take (suc i) s ≡ front ++ (b ∷ [])
-take-next s front back b i e h = ap (λ (x : List ℕ). take (suc i) x) (e ∙ sym (append-assoc front (b ∷ []) back)) ∙ take-at (front ++ (b ∷ [])) back (suc i) (simp length-append (omega arith))
+take-next s front back b i e h = ap (λ (x : List ℕ). take (suc i) x) (e ∙ sym (append-assoc front (b ∷ []) back)) ∙ take-at (front ++ (b ∷ [])) back (suc i)
+    (simp length-append (omega arith))
 
 start-within : (L : ℕ) → Within L start
 unfolding nesting
@@ -211,11 +225,16 @@ module _ (t : List ℕ) (i : ℕ) where
   front-extends : (K : ℕ) (k : Bool) → 32 ≤ K → Reached 32 k start 0 t i → Extends K (take i t)
   unfolding Extends
   front-extends K k l R =
-      let f = finishes (R .state) K i in
-      (finish (R .state), f .0, rw (take-front t (R .front) (R .back) i (R .split) (R .offset)) (sound-at K (R .front ++ finish (R .state)) (f .0) (R .runs K l (finish (R .state)) ∙ f .1)))
+      let f = finishes (R .state) K i in (
+        finish (R .state),
+        f .0,
+        rw (take-front t (R .front) (R .back) i (R .split) (R .offset))
+            (sound-at K (R .front ++ finish (R .state)) (f .0) (R .runs K l (finish (R .state)) ∙ f .1)),
+      )
 
   -- what a byte does at the place, at a higher limit, and so what the text up to that byte does
-  next-runs : (K : ℕ) (k : Bool) (b : ℕ) (back : List ℕ) → 32 ≤ K → (R : Reached 32 k start 0 t i) → R .back ≡ b ∷ back → (w : List ℕ) → run K start 0 (take (suc i) t ++ w) ≡ onward (step K (R .state) b) (λ z. run K z (i + 1) w) i
+  next-runs : (K : ℕ) (k : Bool) (b : ℕ) (back : List ℕ) → 32 ≤ K → (R : Reached 32 k start 0 t i) → R .back ≡ b ∷ back → (w : List ℕ)
+      → run K start 0 (take (suc i) t ++ w) ≡ onward (step K (R .state) b) (λ z. run K z (i + 1) w) i
   unfolding run
   next-runs K k b back l R e w =
       ap (λ (x : List ℕ). run K start 0 (x ++ w)) (take-next t (R .front) back b i (R .split ∙ ap (λ (x : List ℕ). R .front ++ x) e) (R .offset))
@@ -265,14 +284,16 @@ lifts (need sa pa n σ) b h =
     (never-stop _)))))
 lifts (inside m sa pa n σ) b h = lifts-mid (mid-step m b) sa pa n σ
 lifts (post v sa pa σ) b h =
-    by-both Lifts (eqb b 42) (never-over _ _) (by-both Lifts (eqb b 59) (never-over _ _) (by-both Lifts (eqb b 43) (never-over _ _) (by-both Lifts (eqb b 41) (lifts-close v sa pa σ) (never-stop _))))
+    by-both Lifts (eqb b 42) (never-over _ _) (by-both Lifts (eqb b 59) (never-over _ _)
+    (by-both Lifts (eqb b 43) (never-over _ _) (by-both Lifts (eqb b 41) (lifts-close v sa pa σ) (never-stop _))))
 
 module _ (t : List ℕ) (i : ℕ) where
   place-in : (k : Bool) (R : Reached 32 k start 0 t i) → length t ≡ i + length (R .back)
   place-in k R = ap length (R .split) ∙ length-append (R .front) (R .back) ∙ ap (λ (x : ℕ). x + length (R .back)) (sym (omega (arith, R .offset)))
 
   -- at the place stands a byte that stops the run at every limit
-  stops-there : (R : Reached 32 true start 0 t i) (K : ℕ) → 32 ≤ K → (back : List ℕ) → R .back ≡ back → i < length t → (w : List ℕ) → run K start 0 (take (suc i) t ++ w) ≡ bad i
+  stops-there : (R : Reached 32 true start 0 t i) (K : ℕ) → 32 ≤ K → (back : List ℕ) → R .back ≡ back → i < length t → (w : List ℕ)
+      → run K start 0 (take (suc i) t ++ w) ≡ bad i
   unfolding onward
   stops-there R K l [] e h w = absurd (omega (arith, place-in true R, ap length e))
   stops-there R K l (b ∷ back) e h w =
@@ -282,7 +303,8 @@ module _ (t : List ℕ) (i : ℕ) where
   whole-stops : (R : Reached 32 true start 0 t i) (K : ℕ) → 32 ≤ K → (back : List ℕ) → R .back ≡ back → run K (R .state) i back ≡ bad i
   unfolding run onward
   whole-stops R K l [] e = subst (λ (x : List ℕ). Ends 32 true (R .state) i x) e (R .ends)
-  whole-stops R K l (b ∷ back) e = ap (λ (x : Step). onward x (λ z. run K z (i + 1) back) i) (stop-keeps K (R .state) b l (subst (λ (x : List ℕ). Ends 32 true (R .state) i x) e (R .ends)))
+  whole-stops R K l (b ∷ back) e = ap (λ (x : Step). onward x (λ z. run K z (i + 1) back) i)
+      (stop-keeps K (R .state) b l (subst (λ (x : List ℕ). Ends 32 true (R .state) i x) e (R .ends)))
 
   -- 7
   pub not-policy : reads t ≡ bad i → NotPolicy t i
@@ -293,7 +315,8 @@ module _ (t : List ℕ) (i : ℕ) where
         inside = omega (arith, place-in true R);
         before = front-extends t i 32 true (omega arith) R;
         cannot = (λ l d x. bad≢accept (sym (stops-there R (d + 32) (omega arith) (R .back) refl l (x .0)) ∙ complete-at (d + 32) (omega arith) (x .2)));
-        not-whole = (λ d p x. bad≢accept (sym (ap (λ (z : List ℕ). run (d + 32) start 0 z) (R .split) ∙ R .runs (d + 32) (omega arith) (R .back) ∙ whole-stops R (d + 32) (omega arith) (R .back) refl) ∙ complete-at (d + 32) (omega arith) x));
+        not-whole = (λ d p x. bad≢accept (sym (ap (λ (z : List ℕ). run (d + 32) start 0 z) (R .split) ∙ R .runs (d + 32) (omega arith) (R .back)
+            ∙ whole-stops R (d + 32) (omega arith) (R .back) refl) ∙ complete-at (d + 32) (omega arith) x));
       }
 
   over-there : (R : Reached 32 false start 0 t i) (back : List ℕ) → R .back ≡ back → TooDeep t i
@@ -306,8 +329,15 @@ module _ (t : List ℕ) (i : ℕ) where
       record {
         inside = omega (arith, place-in false R, ap length e);
         before = front-extends t i 32 false (omega arith) R;
-        cannot = (λ x. deep≢accept (sym (next-runs t i 32 false b back (omega arith) R e (x .0) ∙ ap (λ (z : Step). onward z (λ z. run 32 z (i + 1) (x .0)) i) h) ∙ complete-at 32 (omega arith) (x .2)));
-        deeper = (finish (q .0), f .0, sound-at 33 (take (suc i) t ++ finish (q .0)) (f .0) (next-runs t i 33 false b back (omega arith) R e (finish (q .0)) ∙ ap (λ (z : Step). onward z (λ z. run 33 z (i + 1) (finish (q .0))) i) (q .1) ∙ f .1));
+        cannot = (λ x. deep≢accept (sym (next-runs t i 32 false b back (omega arith) R e (x .0)
+            ∙ ap (λ (z : Step). onward z (λ z. run 32 z (i + 1) (x .0)) i) h) ∙ complete-at 32 (omega arith) (x .2)));
+        deeper = (
+          finish (q .0),
+          f .0,
+          sound-at 33 (take (suc i) t ++ finish (q .0)) (f .0)
+              (next-runs t i 33 false b back (omega arith) R e (finish (q .0)) ∙ ap (λ (z : Step). onward z (λ z. run 33 z (i + 1) (finish (q .0))) i) (q .1)
+              ∙ f .1),
+        );
       }
 
   -- 9

@@ -1,17 +1,16 @@
 -- The searches and tests of specs/Reading on what is left of a text, one byte further; from the definitions.
 use mathlib.Core.Path.{_≡_, refl, sym, ap, _∙_}
-use Prim.Native.Nat.{ℕ, zero, suc, _+_, _-_, _*_, _≤_, _<_}
+use Prim.Native.Nat.{ℕ, _+_, _-_, _*_, _≤_, _<_}
 use native.Mathlib.Numerals.{add-one}
 use native.Mathlib.Omega.{arith}
 use mathlib.Core.List.{List, [], _∷_}
-use mathlib.Core.Bool.{Bool, true, false, cond, not, _&&_}
+use mathlib.Core.Bool.{Bool, true, false, cond, not}
 use lib.ListN.{length, drop, getD}
 use lib.Seq.{drop-cons, drop-length}
 use lib.Dec.{eqb, leb}
 use borrow.Author.Tests.{eq-eqb, ne-eqb}
 use Rattle.texts.specs.Machine.{digit?}
 use Rattle.texts.specs.Reading.{first, number, no-field?, test?, open-after, clean-inside?, clean?, offends?}
-use Rattle.texts.specs.declared.Found.{Found}
 use Rattle.texts.specs.declared.Found.the-variants.{Nowhere, At}
 
 -- parentheses
@@ -86,13 +85,16 @@ module _ (t : List ℕ) where
   unfolding number
   number-next at h = ap number (left at (omega arith) ∙ ap (λ (s : List ℕ). getD t at 0 ∷ s) (left (at + 1) h))
 
-  pub number-two : (at a b : ℕ) → at ≤ length t → (at ≡ length t → ⊥) → (at + 1 ≡ length t → ⊥) → true ≡ digit? (getD t (at + 1) 0) → a ≡ getD t at 0 - 48 → b ≡ getD t (at + 1) 0 - 48
+  pub number-two : (at a b : ℕ) → at ≤ length t → (at ≡ length t → ⊥) → (at + 1 ≡ length t → ⊥) → true ≡ digit? (getD t (at + 1) 0) → a ≡ getD t at 0 - 48
+      → b ≡ getD t (at + 1) 0 - 48
       → a * 10 + b ≡ number (drop at t)
-  number-two at a b h l m d e f = rw (e, f) (sym (number-next at (omega arith) ∙ ap (λ (x : Bool). cond x ((getD t at 0 - 48) * 10 + (getD t (at + 1) 0 - 48)) (getD t at 0 - 48)) (sym d)))
+  number-two at a b h l m d e f = rw (e, f) (sym (number-next at (omega arith)
+      ∙ ap (λ (x : Bool). cond x ((getD t at 0 - 48) * 10 + (getD t (at + 1) 0 - 48)) (getD t at 0 - 48)) (sym d)))
 
   pub number-short : (at a : ℕ) → at ≤ length t → (at ≡ length t → ⊥) → (at + 1 ≡ length t → ⊥) → false ≡ digit? (getD t (at + 1) 0)
       → a ≡ getD t at 0 - 48 → a ≡ number (drop at t)
-  number-short at a h l m d e = e ∙ sym (number-next at (omega arith) ∙ ap (λ (x : Bool). cond x ((getD t at 0 - 48) * 10 + (getD t (at + 1) 0 - 48)) (getD t at 0 - 48)) (sym d))
+  number-short at a h l m d e = e ∙ sym (number-next at (omega arith)
+      ∙ ap (λ (x : Bool). cond x ((getD t at 0 - 48) * 10 + (getD t (at + 1) 0 - 48)) (getD t at 0 - 48)) (sym d))
 
   pub no-field-here : (k at n : ℕ) → at < length t → getD t at 0 ≡ 120 → n ≡ number (drop (at + 1) t) → leb k n ≡ no-field? k (drop at t)
   unfolding no-field?
@@ -136,7 +138,8 @@ module _ (t : List ℕ) where
   pub inside-star : (at n : ℕ) → at ≤ length t → (at ≡ length t → ⊥) → 0 < n → (getD t at 0 ≡ 58 → ⊥) → getD t at 0 ≡ 42 → clean-inside? (drop at t) n ≡ false
   inside-star at n h l k f e = inside-next at n (omega arith) k ∙ simp (ne-eqb _ _ f, eq-eqb _ _ e)
 
-  pub inside-later : (at n m : ℕ) → at ≤ length t → (at ≡ length t → ⊥) → 0 < n → (getD t at 0 ≡ 58 → ⊥) → (getD t at 0 ≡ 42 → ⊥) → m ≡ open-after (getD t at 0) n
+  pub inside-later : (at n m : ℕ) → at ≤ length t → (at ≡ length t → ⊥) → 0 < n → (getD t at 0 ≡ 58 → ⊥) → (getD t at 0 ≡ 42 → ⊥)
+      → m ≡ open-after (getD t at 0) n
       → clean-inside? (drop at t) n ≡ clean-inside? (drop (at + 1) t) m
   inside-later at n m h l k f e g = rw g (inside-next at n (omega arith) k ∙ simp (ne-eqb _ _ f, ne-eqb _ _ e))
 

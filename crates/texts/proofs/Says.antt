@@ -2,13 +2,11 @@
 -- rules' and where each `x` and `!` stands.
 use mathlib.Core.Path.{_≡_, refl, sym, ap, subst, _∙_}
 use mathlib.Core.Logic.{_↔_}
-use Prim.Native.Nat.{ℕ, zero, suc, _+_, _≤_, _<_}
-use native.Mathlib.Omega.{arith}
+use Prim.Native.Nat.{ℕ, _≤_}
 use native.Mathlib.Nat.{zero-add}
-use mathlib.Core.List.{List, [], _∷_, _++_, append-nil}
-use mathlib.Core.Bool.{Bool, true, false, cond, not, _&&_, true≢false}
-use lib.ListN.{length, drop}
-use lib.Dec.{eqb, leb}
+use mathlib.Core.List.{List, []}
+use mathlib.Core.Bool.{Bool, true, false, not, _&&_, true≢false}
+use lib.Dec.{leb}
 use borrow.Author.Tests.{ne-eqb, leb-true, leb-false}
 use Rattle.nodes.specs.Policies.{Policy, predicate?, negates-predicates?, fields-below?}
 use Rattle.texts.specs.Grammar.{Sum}
@@ -24,75 +22,19 @@ use Rattle.texts.proofs.Offsets.{not-policy, too-deep}
 use Rattle.texts.proofs.Clean.{clean-atom}
 use Rattle.texts.proofs.Counts.{none, finds, number-field, fields-found, negations-found}
 use Rattle.texts.proofs.Begins.{Begins, other, name, bang, begins}
-
--- the first place that passes a test
-record FirstAt (P : List ℕ → Bool) (t : List ℕ) (m : ℕ) : Type 0 where
-  inside : m < length t
-  here : P (drop m t) ≡ true
-  before : (j : ℕ) → j < m → P (drop j t) ≡ false
-  some : none P t [] ≡ false
-
-unfoldable FirstOf : (List ℕ → Bool) → ℕ → List ℕ → Found → Type 0
-FirstOf P i t Nowhere = none P t [] ≡ true
-FirstOf P i t (At j) = (m : ℕ) × (j ≡ i + m) × FirstAt P t m
-
-none-cons : (P : List ℕ → Bool) (b : ℕ) (s : List ℕ) → none P (b ∷ s) [] ≡ not (P (b ∷ s)) && none P s []
-unfolding none
-none-cons P b s = ap (λ (w : List ℕ). not (P (b ∷ w)) && none P s []) (append-nil s)
-
-none-later : (P : List ℕ → Bool) (b : ℕ) (s : List ℕ) → P (b ∷ s) ≡ false → none P (b ∷ s) [] ≡ none P s []
-none-later P b s e = none-cons P b s ∙ ap (λ (x : Bool). not x && none P s []) e
-
-first-later : (P : List ℕ → Bool) (i b : ℕ) (s : List ℕ) → P (b ∷ s) ≡ false → (f : Found) → FirstOf P (i + 1) s f → FirstOf P i (b ∷ s) f
-unfolding FirstOf
-first-later P i b s e Nowhere h = none-later P b s e ∙ h
-first-later P i b s e (At j) (m, k, h) = (
-  suc m,
-  omega arith,
-  record { inside = (let l = h .inside in omega arith); here = h .here; before = before; some = none-later P b s e ∙ h .some },
-)
-  where
-    before : (l : ℕ) → l < suc m → P (drop l (b ∷ s)) ≡ false
-    before zero g = e
-    before (suc l) g = h .before l (omega arith)
-
-first-of : (P : List ℕ → Bool) (i : ℕ) (t : List ℕ) → FirstOf P i t (first P i t)
-unfolding first FirstOf none
-first-of P i [] = refl
-first-of P i (b ∷ s) = by (P (b ∷ s)) refl (first-of P (i + 1) s)
-  where
-    by : (x : Bool) → P (b ∷ s) ≡ x → FirstOf P (i + 1) s (first P (i + 1) s) → FirstOf P i (b ∷ s) (cond x (At i) (first P (i + 1) s))
-    by true e h = (
-      0,
-      omega arith,
-      record {
-        inside = omega arith;
-        here = e;
-        before = λ j l. absurd (omega arith);
-        some = none-cons P b s ∙ ap (λ (x : Bool). not x && none P s []) e;
-      },
-    )
-    by false e h = first-later P i b s e (first P (i + 1) s) h
-
-first-nowhere : (P : List ℕ → Bool) (t : List ℕ) → none P t [] ≡ true → first P 0 t ≡ Nowhere
-unfolding FirstOf
-first-nowhere P t h = by (first P 0 t) (first-of P 0 t)
-  where
-    by : (f : Found) → FirstOf P 0 t f → f ≡ Nowhere
-    by Nowhere x = refl
-    by (At j) x = absurd (true≢false (sym h ∙ x .2 .some))
+use Rattle.texts.proofs.Searches.{FirstAt, FirstOf, first-of, first-nowhere}
 
 -- the tests on the text that a field's number and an operand begin
-names-above : {n : ℕ} {u : List ℕ} (k : ℕ) → Names n u → no-field? k u ≡ leb k n
+pub names-above : {n : ℕ} {u : List ℕ} (k : ℕ) → Names n u → no-field? k u ≡ leb k n
 unfolding no-field?
 names-above k (names-test s g) = ap (leb k) (number-field 61 s refl g)
 names-above k (names-assign s g) = ap (leb k) (number-field 58 s refl g)
 
-negated-other : {p : Policy} {u : List ℕ} → Negates p u → offends? u ≡ not (predicate? p)
+pub negated-other : {p : Policy} {u : List ℕ} → Negates p u → offends? u ≡ not (predicate? p)
 unfolding offends?
 negated-other (negated r a) = ap not (clean-atom a r)
 
-names-found : {u : List ℕ} (k : ℕ) → Begins u → no-field? k u ≡ true → (n : ℕ) × Names n u × (k ≤ n)
+pub names-found : {u : List ℕ} (k : ℕ) → Begins u → no-field? k u ≡ true → (n : ℕ) × Names n u × (k ≤ n)
 unfolding no-field?
 names-found k (other {b = b} {s = s} h j) e = absurd (true≢false (sym e ∙ ap (λ (x : Bool). x && leb k (number s)) (ne-eqb b 120 h)))
 names-found k (name {n = n} x) e = (n, x, leb-true k n (sym (names-above k x) ∙ e))
@@ -106,7 +48,7 @@ not-false : (x : Bool) → not x ≡ false → x ≡ true
 not-false true e = refl
 not-false false e = sym e
 
-negated-found : {u : List ℕ} → Begins u → offends? u ≡ true → (p : Policy) × Negates p u × (predicate? p ≡ false)
+pub negated-found : {u : List ℕ} → Begins u → offends? u ≡ true → (p : Policy) × Negates p u × (predicate? p ≡ false)
 unfolding offends?
 negated-found (other {b = b} {s = s} h j) e = absurd (true≢false (sym e ∙ ap (λ (x : Bool). x && not (clean? s)) (ne-eqb b 33 j)))
 negated-found (name (names-test s g)) e = absurd (true≢false (sym e))
@@ -165,14 +107,14 @@ says k t = by (reads t) refl
     by (bad i) e = not-policy t i e
     by (deep i) e = too-deep t i e
 
-reads-policy : (k : ℕ) (t : List ℕ) → KeepsRules k t → reading k t ≡ Reading.Policy
+pub reads-policy : (k : ℕ) (t : List ℕ) → KeepsRules k t → reading k t ≡ Reading.Policy
 unfolding reading reading-of rules
 reads-policy k t h =
     ap (reading-of k t) (complete t (h .policy) (h .follows))
     ∙ ap (λ (f : Found). rules f (first offends? 0 t))
-        (first-nowhere (no-field? k) t (sym (finds (fields-below? k) (no-field? k) (fields-found k) (h .follows) []) ∙ h .below))
+    (first-nowhere (no-field? k) t (sym (finds (fields-below? k) (no-field? k) (fields-found k) (h .follows) []) ∙ h .below))
     ∙ ap (λ (f : Found). rules Nowhere f)
-        (first-nowhere offends? t (sym (finds negates-predicates? offends? negations-found (h .follows) []) ∙ h .negates-predicates))
+    (first-nowhere offends? t (sym (finds negates-predicates? offends? negations-found (h .follows) []) ∙ h .negates-predicates))
 
 pub keeps-rules : (k : ℕ) (t : List ℕ) → (reading k t ≡ Reading.Policy) ↔ KeepsRules k t
 unfolding Says

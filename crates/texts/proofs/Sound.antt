@@ -1,15 +1,18 @@
 -- What the reader accepts follows the grammar. With each state goes what the bytes read so far are.
-use mathlib.Core.Path.{_≡_, refl, sym, ap, subst, _∙_}
-use Prim.Native.Nat.{ℕ, zero, suc, _+_, _-_, _*_, _≤_, _<_}
+use mathlib.Core.Path.{_≡_, refl, sym, _∙_}
+use Prim.Native.Nat.{ℕ, zero, suc, _+_, _-_, _≤_, _<_}
 use native.Mathlib.Omega.{arith}
 use native.Mathlib.Nat.{lt-of-lt-of-le, lt-suc-self}
 use mathlib.Core.List.{List, [], _∷_, _++_, append-assoc, append-nil}
-use mathlib.Core.Bool.{Bool, true, false, cond, _&&_, _||_, true≢false}
+use mathlib.Core.Bool.{Bool, true, false, cond, _&&_, true≢false}
 use lib.Dec.{eqb, ltb, leb}
-use borrow.Author.Tests.{eqb-true, eqb-false, ltb-true, ltb-false, leb-true, leb-false}
+use borrow.Author.Tests.{eqb-true, eqb-false, ltb-true, leb-true}
 use Rattle.nodes.specs.Policies.{Policy}
-use Rattle.texts.specs.Grammar.{Field, f-zero, f-one, f-two, Bit, b-zero, b-one, Atom, a-zero, a-one, a-test, a-assign, a-neg, a-paren, Starred, s-atom, s-star, Product, p-one, p-seq, Sum, u-one, u-plus}
-use Rattle.texts.specs.Machine.{Acc, nothing, sofar, Frame, paren, Mid, name, digit, named, colon, bit, State, need, inside, post, MidStep, more, whole, not-mid, Step, go, stop, over, Out, accept, bad, deep, negs, join-seq, join-plus, nesting, digit?, leaf, after-name, mid-step, mid-go, close, step, final, onward, run, start, reads}
+use Rattle.texts.specs.Grammar.{Field, f-zero, f-one, f-two, Bit, b-zero, b-one, Atom, a-zero, a-one, a-test, a-assign, a-neg, a-paren, Starred, s-atom}
+use Rattle.texts.specs.Grammar.{s-star, Product, p-one, p-seq, Sum, u-one, u-plus}
+use Rattle.texts.specs.Machine.{Acc, nothing, sofar, Frame, paren, Mid, name, digit, named, colon, bit, State, need, inside, post, MidStep, more, whole}
+use Rattle.texts.specs.Machine.{not-mid, Step, go, stop, over, accept, bad, deep, negs, join-seq, join-plus, nesting, digit?, leaf, after-name}
+use Rattle.texts.specs.Machine.{mid-step, mid-go, close, step, final, onward, run, start, reads}
 
 -- n `!`
 bangs : ℕ → List ℕ
@@ -110,7 +113,8 @@ unfolding after-name
 good-name {f} b g = by-cond (MidGood f b) (eqb b 61) (λ h. rw (eqb-true b 61 h) (t-test g))
     (λ _. by-cond (MidGood f b) (eqb b 58) (λ h. rw (eqb-true b 58 h) (t-colon g)) (λ _. tt))
 
-good-bit : (w : List ℕ) (n : ℕ) (k : Bool) (b : ℕ) → ((d c : ℕ) (v : Bool) → Bit c v → Atom d (120 ∷ (w ++ (c ∷ []))) (leaf k n v)) → MidGood w b (mid-step (bit k n) b)
+good-bit : (w : List ℕ) (n : ℕ) (k : Bool) (b : ℕ) → ((d c : ℕ) (v : Bool) → Bit c v → Atom d (120 ∷ (w ++ (c ∷ []))) (leaf k n v))
+    → MidGood w b (mid-step (bit k n) b)
 unfolding mid-step
 good-bit w n k b a = by-cond (MidGood w b) (eqb b 48) (λ h. λ d. rw (eqb-true b 48 h) (a d 48 false b-zero))
     (λ _. by-cond (MidGood w b) (eqb b 49) (λ h. λ d. rw (eqb-true b 49 h) (a d 49 true b-one)) (λ _. tt))
@@ -119,7 +123,8 @@ good-mid : {w : List ℕ} {m : Mid} (b : ℕ) → MidText w m → MidGood w b (m
 unfolding mid-step leaf
 good-mid b t-name = by-cond (MidGood [] b) (eqb b 48) (λ h. rw (eqb-true b 48 h) (t-named f-zero))
     (λ z. by-cond (MidGood [] b) (digit? b) (λ h. let k = is-digit b h in t-digit (omega (arith, eqb-false b 48 z)) (k .1)) (λ _. tt))
-good-mid b (t-digit {a = a} g h) = by-cond (MidGood (a ∷ []) b) (digit? b) (λ k. let l = is-digit b k in t-named (f-two g h (l .0) (l .1))) (λ _. good-name b (f-one g h))
+good-mid b (t-digit {a = a} g h) = by-cond (MidGood (a ∷ []) b) (digit? b) (λ k. let l = is-digit b k in
+    t-named (f-two g h (l .0) (l .1))) (λ _. good-name b (f-one g h))
 good-mid b (t-named f) = good-name b f
 good-mid b (t-colon {f = w} f) = by-cond (MidGood (w ++ (58 ∷ [])) b) (eqb b 61) (λ h. rw (eqb-true b 61 h, append-assoc) (t-assign f)) (λ _. tt)
 good-mid b (t-test {n = n} {f = w} f) = good-bit (w ++ (61 ∷ [])) n false b (λ d c v h. rw append-assoc (a-test f h))
@@ -140,34 +145,69 @@ good-need L sa pa n σ r b i =
     let B = i .1 in
     let P : Step → Type 0 = Good L r b in
     let dep = stack-depth (B .stack) in
-    by-cond P (eqb b 48) (λ h. (d, B, bangs n ++ (48 ∷ []), s-atom (with-bangs {e = 0} n (omega (arith, i .2)) a-zero), grow B r (bangs n) b 48 (eqb-true b 48 h) (i .3)))
-    (λ _. by-cond P (eqb b 49) (λ h. (d, B, bangs n ++ (49 ∷ []), s-atom (with-bangs {e = 0} n (omega (arith, i .2)) a-one), grow B r (bangs n) b 49 (eqb-true b 49 h) (i .3)))
+    by-cond P (eqb b 48) (λ h. (
+      d,
+      B,
+      bangs n ++ (48 ∷ []),
+      s-atom (with-bangs {e = 0} n (omega (arith, i .2)) a-zero),
+      grow B r (bangs n) b 48
+          (eqb-true b 48 h) (i .3),
+    ))
+    (λ _. by-cond P (eqb b 49) (λ h. (
+      d,
+      B,
+      bangs n ++ (49 ∷ []),
+      s-atom (with-bangs {e = 0} n (omega (arith, i .2)) a-one),
+      grow B r (bangs n) b 49
+          (eqb-true b 49 h) (i .3),
+    ))
     (λ _. by-cond P (eqb b 120) (λ h. (d, B, i .2, [], t-name, grow B r (bangs n) b 120 (eqb-true b 120 h) (i .3)))
-    (λ _. by-cond P (eqb b 33) (λ h. by-cond P (ltb (n + nesting σ) L) (λ k. let l = ltb-true (n + nesting σ) L k in bang d B l dep (eqb-true b 33 h) (i .3)) (λ _. tt))
-    (λ _. by-cond P (eqb b 40) (λ h. by-cond P (ltb (n + nesting σ) L) (λ k. let l = ltb-true (n + nesting σ) L k in opens d B l dep (eqb-true b 40 h) (i .3)) (λ _. tt))
+    (λ _. by-cond P (eqb b 33) (λ h. by-cond P (ltb (n + nesting σ) L) (λ k. let l = ltb-true (n + nesting σ) L k in
+    bang d B l dep (eqb-true b 33 h) (i .3)) (λ _. tt))
+    (λ _. by-cond P (eqb b 40) (λ h. by-cond P (ltb (n + nesting σ) L) (λ k. let l = ltb-true (n + nesting σ) L k in
+    opens d B l dep (eqb-true b 40 h) (i .3)) (λ _. tt))
     (λ _. tt)))))
   where
-    bang : (d : ℕ) (B : Before L d sa pa σ) → n + nesting σ < L → d + nesting σ ≡ L → b ≡ 33 → r ≡ all B (bangs n) → Inv L (need sa pa (suc n) σ) (r ++ (b ∷ []))
+    bang : (d : ℕ) (B : Before L d sa pa σ) → n + nesting σ < L → d + nesting σ ≡ L → b ≡ 33 → r ≡ all B (bangs n)
+        → Inv L (need sa pa (suc n) σ) (r ++ (b ∷ []))
     bang d B l dep e h = (d, B, omega arith, grow B r (bangs n) b 33 e h)
 
-    opens : (d : ℕ) (B : Before L d sa pa σ) → n + nesting σ < L → d + nesting σ ≡ L → b ≡ 40 → r ≡ all B (bangs n) → Inv L (need nothing nothing 0 (paren sa pa n ∷ σ)) (r ++ (b ∷ []))
+    opens : (d : ℕ) (B : Before L d sa pa σ) → n + nesting σ < L → d + nesting σ ≡ L → b ≡ 40 → r ≡ all B (bangs n)
+        → Inv L (need nothing nothing 0 (paren sa pa n ∷ σ)) (r ++ (b ∷ []))
     opens d B l dep e h = (
       d - suc n,
-      record { s = all B (bangs n ++ (40 ∷ [])); x = []; y = []; stack = stack-paren {d = d} {e = d - suc n} {n = n} (B .stack) (B .plus) (B .seq) (omega arith); plus = plus-none; seq = seq-none },
+      record {
+        s = all B (bangs n ++ (40 ∷ []));
+        x = [];
+        y = [];
+        stack = stack-paren {d = d} {e = d - suc n} {n = n} (B .stack) (B .plus) (B .seq)
+            (omega arith);
+        plus = plus-none;
+        seq = seq-none;
+      },
       omega arith,
       grow B r (bangs n) b 40 e h ∙ sym (append-nil _),
     )
 
-good-inside : (L : ℕ) (m : Mid) (sa pa : Acc) (n : ℕ) (σ : List Frame) (r : List ℕ) (b : ℕ) → Inv L (inside m sa pa n σ) r → Good L r b (step L (inside m sa pa n σ) b)
+good-inside : (L : ℕ) (m : Mid) (sa pa : Acc) (n : ℕ) (σ : List Frame) (r : List ℕ) (b : ℕ) → Inv L (inside m sa pa n σ) r
+    → Good L r b (step L (inside m sa pa n σ) b)
 unfolding step mid-go
 good-inside L m sa pa n σ r b i = by (mid-step m b) (good-mid b (i .4))
   where
     by : (k : MidStep) → MidGood (i .3) b k → Good L r b (mid-go k sa pa n σ)
     by (more m′) g = (i .0, i .1, i .2, i .3 ++ (b ∷ []), g, grow (i .1) r (bangs n ++ (120 ∷ i .3)) b b refl (i .5) ∙ simp append-assoc)
-    by (whole p) g = (i .0, i .1, bangs n ++ (120 ∷ (i .3 ++ (b ∷ []))), s-atom (with-bangs {d = i .0} {e = 0} n (omega (arith, i .2)) (g 0)), grow (i .1) r (bangs n ++ (120 ∷ i .3)) b b refl (i .5) ∙ simp append-assoc)
+    by (whole p) g = (
+      i .0,
+      i .1,
+      bangs n ++ (120 ∷ (i .3 ++ (b ∷ []))),
+      s-atom (with-bangs {d = i .0} {e = 0} n (omega (arith, i .2)) (g 0)),
+      grow (i .1) r
+          (bangs n ++ (120 ∷ i .3)) b b refl (i .5) ∙ simp append-assoc,
+    )
     by not-mid g = tt
 
-good-close : (L : ℕ) (v : Policy) (sa pa : Acc) (σ : List Frame) (r : List ℕ) (b : ℕ) (d : ℕ) (s x y w : List ℕ) → Stack L d s σ → PlusL d x sa → SeqL d y pa → Starred d w v → b ≡ 41
+good-close : (L : ℕ) (v : Policy) (sa pa : Acc) (σ : List Frame) (r : List ℕ) (b : ℕ) (d : ℕ) (s x y w : List ℕ) → Stack L d s σ → PlusL d x sa
+    → SeqL d y pa → Starred d w v → b ≡ 41
     → r ≡ s ++ (x ++ (y ++ w)) → Good L r b (close v sa pa σ)
 unfolding close
 good-close L v sa pa σ r b d s x y w stack-none p q g e h = tt
@@ -187,8 +227,35 @@ good-post L v sa pa σ r b i =
     let w = i .2 in
     let P : Step → Type 0 = Good L r b in
     by-cond P (eqb b 42) (λ h. (d, B, w ++ (42 ∷ []), s-star (i .3), grow B r w b 42 (eqb-true b 42 h) (i .4)))
-    (λ _. by-cond P (eqb b 59) (λ h. (d, record { s = B .s; x = B .x; y = (B .y ++ w) ++ (59 ∷ []); stack = B .stack; plus = B .plus; seq = seq-some (join-product (B .seq) (i .3)) }, omega arith, grow B r w b 59 (eqb-true b 59 h) (i .4) ∙ simp (append-assoc, append-nil)))
-    (λ _. by-cond P (eqb b 43) (λ h. (d, record { s = B .s; x = (B .x ++ (B .y ++ w)) ++ (43 ∷ []); y = []; stack = B .stack; plus = plus-some (join-sum (B .plus) (join-product (B .seq) (i .3))); seq = seq-none }, omega arith, grow B r w b 43 (eqb-true b 43 h) (i .4) ∙ simp (append-assoc, append-nil)))
+    (λ _. by-cond P (eqb b 59) (λ h. (
+      d,
+      record {
+        s = B .s;
+        x = B .x;
+        y = (B .y ++ w) ++ (59 ∷ []);
+        stack = B .stack;
+        plus = B .plus;
+        seq = seq-some
+            (join-product (B .seq) (i .3));
+      },
+      omega arith,
+      grow B r w b 59 (eqb-true b 59 h) (i .4) ∙ simp (append-assoc, append-nil),
+    ))
+    (λ _. by-cond P (eqb b 43) (λ h. (
+      d,
+      record {
+        s = B .s;
+        x = (B .x ++ (B .y ++ w)) ++ (43 ∷ []);
+        y = [];
+        stack = B .stack;
+        plus = plus-some
+            (join-sum (B .plus) (join-product (B .seq) (i .3)));
+        seq = seq-none;
+      },
+      omega arith,
+      grow B r w b 43 (eqb-true b 43 h) (i .4) ∙ simp
+          (append-assoc, append-nil),
+    ))
     (λ _. by-cond P (eqb b 41) (λ h. good-close L v sa pa σ r b d (B .s) (B .x) (B .y) w (B .stack) (B .plus) (B .seq) (i .3) (eqb-true b 41 h) (i .4))
     (λ _. tt))))
 
@@ -203,10 +270,11 @@ bad≢accept e = let z : _≡_ {A = ℕ} 0 1 = cc in omega arith
 pub deep≢accept : {i : ℕ} {p : Policy} → deep i ≡ accept p → ⊥
 deep≢accept e = let z : _≡_ {A = ℕ} 0 1 = cc in omega arith
 
-accept-same : {p q : Policy} → accept p ≡ accept q → p ≡ q
+pub accept-same : {p q : Policy} → accept p ≡ accept q → p ≡ q
 accept-same e = cc
 
-ends-all : {L d : ℕ} {s x y w : List ℕ} {sa pa : Acc} {v : Policy} → Stack L d s [] → PlusL d x sa → SeqL d y pa → Starred d w v → Sum L (s ++ (x ++ (y ++ w))) (join-plus sa (join-seq pa v))
+ends-all : {L d : ℕ} {s x y w : List ℕ} {sa pa : Acc} {v : Policy} → Stack L d s [] → PlusL d x sa → SeqL d y pa → Starred d w v
+    → Sum L (s ++ (x ++ (y ++ w))) (join-plus sa (join-seq pa v))
 ends-all stack-none p q g = join-sum p (join-product q g)
 
 ends : (L : ℕ) (q : State) (at : ℕ) (r : List ℕ) (p : Policy) → Inv L q r → final q at ≡ accept p → Sum L r p
@@ -219,9 +287,11 @@ ends L (post v sa pa (f ∷ σ)) at r p i e = absurd (bad≢accept e)
 sound-run : (L : ℕ) (t : List ℕ) (q : State) (at : ℕ) (r : List ℕ) (p : Policy) → Inv L q r → run L q at t ≡ accept p → Sum L (r ++ t) p
 unfolding run onward
 sound-run L [] q at r p i e = rw append-nil (ends L q at r p i e)
-sound-run L (b ∷ t) q at r p i e = rw (← (append-assoc r (b ∷ []) t)) (by (step L q b) (good L q r b i) (λ q′ i′ e′. sound-run L t q′ (at + 1) (r ++ (b ∷ [])) p i′ e′) e)
+sound-run L (b ∷ t) q at r p i e = rw (← (append-assoc r (b ∷ []) t))
+    (by (step L q b) (good L q r b i) (λ q′ i′ e′. sound-run L t q′ (at + 1) (r ++ (b ∷ [])) p i′ e′) e)
   where
-    by : (k : Step) → Good L r b k → ((q′ : State) → Inv L q′ (r ++ (b ∷ [])) → run L q′ (at + 1) t ≡ accept p → Sum L ((r ++ (b ∷ [])) ++ t) p) → onward k (λ z. run L z (at + 1) t) at ≡ accept p → Sum L ((r ++ (b ∷ [])) ++ t) p
+    by : (k : Step) → Good L r b k → ((q′ : State) → Inv L q′ (r ++ (b ∷ [])) → run L q′ (at + 1) t ≡ accept p → Sum L ((r ++ (b ∷ [])) ++ t) p)
+        → onward k (λ z. run L z (at + 1) t) at ≡ accept p → Sum L ((r ++ (b ∷ [])) ++ t) p
     by (go q′) g f e = f q′ g e
     by stop g f e = absurd (bad≢accept e)
     by over g f e = absurd (deep≢accept e)

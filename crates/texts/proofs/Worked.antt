@@ -1,7 +1,7 @@
 -- The texts of document 01, and more, each with its number of fields and what it reads as: by computation.
 use mathlib.Core.Path.{_≡_, refl}
 use mathlib.Core.List.{List, [], _∷_, _++_, map}
-use mathlib.Core.Bool.{true, false}
+use mathlib.Core.Bool.{true}
 use Prim.Native.Nat.{ℕ}
 use lib.ListN.{replicate}
 use Rattle.nodes.specs.Policies.{Policy}
@@ -39,7 +39,8 @@ table =
     ∷ []
 
 worked : map (λ c. reading (c .0) (c .1)) table ≡ map (λ c. c .2) table
-unfolding reading reading-of rules first number no-field? test? open-after clean-inside? clean? offends? reads run final step onward mid-step mid-go after-name close join-seq join-plus negs nesting leaf
+unfolding reading reading-of rules first number no-field? test? open-after clean-inside? clean? offends? reads run final step onward mid-step mid-go
+    after-name close join-seq join-plus negs nesting leaf
 worked = refl
 
 -- `!x0=1;(1+0*)**`: joins group from the left, and a star is of what stands before it

@@ -1,8 +1,8 @@
 -- What a reading says of a text, in terms of the grammar and of its tree alone.
 use mathlib.Core.Path.{_≡_}
 use Prim.Native.Nat.{ℕ, _≤_, _<_}
-use mathlib.Core.List.{List, [], _∷_, _++_}
-use mathlib.Core.Bool.{Bool, true, false}
+use mathlib.Core.List.{List, _∷_, _++_}
+use mathlib.Core.Bool.{true, false}
 use lib.ListN.{length, drop}
 use Rattle.nodes.specs.Policies.{Policy, predicate?, negates-predicates?, fields-below?}
 use Rattle.texts.specs.Grammar.{Field, Atom, Sum, NotPolicy, TooDeep}
@@ -41,8 +41,8 @@ pub record NotPredicate (k : ℕ) (t : List ℕ) (i : ℕ) : Type 0 where
   pub other : predicate? operand ≡ false
   pub none-before : (j : ℕ) (p : Policy) → j < i → Negates p (drop j t) → predicate? p ≡ true
 
--- a text keeps the rules: it "follows the grammar, nests no atom deeper than 32, names only fields below k and has neither `:=` nor `*`
--- in the operand of a `!`"
+-- 01's rules but the length, which is 10: a text "follows the grammar, nests no atom deeper than 32, names only fields below k and has
+-- neither `:=` nor `*` in the operand of a `!`"
 pub record KeepsRules (k : ℕ) (t : List ℕ) : Type 0 where
   pub policy : Policy
   pub follows : Sum 32 t policy

@@ -1,8 +1,8 @@
 -- What a text reads as for k fields, from its bytes, in the order of 01, "What each operation declines, in order": "7 .. or 9 ..;
 -- 5, at the first `x` whose N is k or more; 8, at the first offending `!`".
-use Prim.Native.Nat.{ℕ, zero, suc, _+_, _-_, _*_}
+use Prim.Native.Nat.{ℕ, _+_, _-_, _*_}
 use mathlib.Core.List.{List, [], _∷_}
-use mathlib.Core.Bool.{Bool, true, false, cond, not, _&&_, _||_}
+use mathlib.Core.Bool.{Bool, true, false, cond, not, _&&_}
 use lib.Dec.{leb, eqb}
 use Rattle.texts.specs.Machine.{Out, accept, bad, deep, digit?, reads}
 use Rattle.texts.specs.declared.Found.{Found}

@@ -1,3 +1,4 @@
+-- `keeps_rules` answers by the first `x` without a field, else by the first offending `!`: from the two searches.
 use borrow.Author.Needs.{needs}
 use Rattle.texts.proofs.Order.{no-field-rules, not-predicate-rules, policy-rules}
 use Rattle.texts.proofs.keeps_rules.Statement.{statement}
@@ -25,10 +26,19 @@ enum-told-2 : tie.Need-enum-told-2
 enum-told-2 c = search needs
 
 returns-2 : tie.Need-returns-2
-returns-2 c = not-predicate-rules _ _ _ _ _ (c .before .before .before .before .before .before .first-without .ensures) (c .before .before .before .before .enum-told .given .1) (c .before .before .before .first-offending .ensures) (c .before .negation .given .1)
+returns-2 c =
+    let c3 = c .before .before .before in
+    let c4 = c3 .before in
+    let c6 = c4 .before .before in
+    not-predicate-rules _ _ _ _ _ (c6 .first-without .ensures) (c4 .enum-told .given .1) (c3 .first-offending .ensures)
+    (c .before .negation .given .1)
 
 returns-3 : tie.Need-returns-3
-returns-3 c = policy-rules _ _ _ _ (c .before .before .before .before .before .first-without .ensures) (c .before .before .before .enum-told .given .1) (c .before .before .first-offending .ensures) (c .enum-told2 .given .1)
+returns-3 c =
+    let c3 = c .before .before .before in
+    let c5 = c3 .before .before in
+    policy-rules _ _ _ _ (c5 .first-without .ensures) (c3 .enum-told .given .1) (c .before .before .first-offending .ensures)
+    (c .enum-told2 .given .1)
 
 pub keeps-rules-spec : {M : Type 1} → statement M
 keeps-rules-spec =

@@ -1,3 +1,4 @@
+-- `read` is the reading of the text: from `check` and `keeps_rules`.
 use borrow.Author.Needs.{needs}
 use Rattle.texts.proofs.Order.{bad-reading, deep-reading, whole-reading}
 use Rattle.texts.proofs.read.Statement.{statement}
@@ -25,7 +26,9 @@ returns-2 : tie.Need-returns-2
 returns-2 c = deep-reading _ _ _ _ (c .before .before .before .check .ensures) (c .before .whole2 .given .1)
 
 returns-3 : tie.Need-returns-3
-returns-3 c = whole-reading _ _ _ _ _ (c .before .before .before .check .ensures) (c .before .enum-told .given .1) (c .keeps-rules .ensures)
+returns-3 c =
+    let c3 = c .before .before .before in
+    whole-reading _ _ _ _ _ (c3 .check .ensures) (c .before .enum-told .given .1) (c .keeps-rules .ensures)
 
 pub read-spec : {M : Type 1} → statement M
 read-spec =

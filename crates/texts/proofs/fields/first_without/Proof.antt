@@ -1,3 +1,4 @@
+-- `first_without` is the first place of the test `no-field?`: each step is one of the search.
 use native.Mathlib.Omega.{arith}
 use mathlib.Core.Path.{_≡_, sym, _∙_}
 use Prim.Native.Nat.{_-_, _≤_}
@@ -20,7 +21,9 @@ no-field-requires : tie.Need-no-field-requires Inv-loop μ-loop
 no-field-requires c κs = omega arith
 
 returns : tie.Need-returns Inv-loop μ-loop
-returns c = sym (c .before .before .before .loop .inv .1 ∙ first-here _ _ _ (c .before .before .loop-test .taken) (sym (c .if1 .taken) ∙ c .before .no-field .ensures))
+returns c =
+    let c3 = c .before .before .before in
+    sym (c3 .loop .inv .1 ∙ first-here _ _ _ (c .before .before .loop-test .taken) (sym (c .if1 .taken) ∙ c .before .no-field .ensures))
 
 add-i : tie.Need-add-i Inv-loop μ-loop
 add-i c = omega arith
@@ -29,7 +32,9 @@ loop-less : tie.Need-loop-less Inv-loop μ-loop
 loop-less c = omega arith
 
 loop-again : tie.Need-loop-again Inv-loop μ-loop
-loop-again c = (omega arith, c .before .before .before .loop .inv .1 ∙ first-later _ _ _ (c .before .before .loop-test .taken) (sym (c .if1 .left) ∙ c .before .no-field .ensures))
+loop-again c =
+    let c3 = c .before .before .before in
+    (omega arith, c3 .loop .inv .1 ∙ first-later _ _ _ (c .before .before .loop-test .taken) (sym (c .if1 .left) ∙ c .before .no-field .ensures))
 
 returns-2 : tie.Need-returns-2 Inv-loop μ-loop
 returns-2 c = sym (c .before .loop .inv .1 ∙ first-none _ _ _ (omega arith) (c .before .loop .inv .0))

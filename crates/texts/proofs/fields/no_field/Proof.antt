@@ -1,5 +1,5 @@
+-- `no_field` is the test `no-field?`: from its byte and the number after it.
 use borrow.Author.Needs.{needs}
-use native.Mathlib.Omega.{arith}
 use Rattle.texts.proofs.Passes.{no-field-here, no-field-not}
 use Rattle.texts.proofs.fields.no_field.Statement.{statement}
 use Rattle.texts.proofs.fields.no_field.Tie as tie

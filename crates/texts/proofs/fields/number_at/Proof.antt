@@ -1,3 +1,4 @@
+-- `number_at` is N as its one or two bytes give it.
 use mathlib.Core.Path.{sym, _∙_}
 use borrow.Author.Needs.{needs}
 use native.Mathlib.Omega.{arith}
@@ -36,10 +37,21 @@ add-result : tie.Need-add-result
 add-result c = omega (arith, c .value2 .ensures .1, c .before .before .before .before .before .value .ensures .1)
 
 returns-3 : tie.Need-returns-3
-returns-3 c = number-two _ _ _ _ (c .before .before .before .before .before .before .before .before .before .pre) (c .before .before .before .before .before .before .before .if1 .left) (c .before .before .before .before .if2 .left) (sym (c .before .if3 .taken) ∙ c .before .before .is-digit .ensures) (c .before .before .before .before .before .value .ensures .0) (c .value2 .ensures .0)
+returns-3 c =
+    let c4 = c .before .before .before .before in
+    let c5 = c4 .before in
+    let c7 = c5 .before .before in
+    let c9 = c7 .before .before in
+    number-two _ _ _ _ (c9 .pre) (c7 .if1 .left) (c4 .if2 .left) (sym (c .before .if3 .taken) ∙ c .before .before .is-digit .ensures)
+    (c5 .value .ensures .0) (c .value2 .ensures .0)
 
 returns-4 : tie.Need-returns-4
-returns-4 c = number-short _ _ _ (c .before .before .before .before .before .before .before .before .pre) (c .before .before .before .before .before .before .if1 .left) (c .before .before .before .if2 .left) (sym (c .if3 .left) ∙ c .before .is-digit .ensures) (c .before .before .before .before .value .ensures .0)
+returns-4 c =
+    let c3 = c .before .before .before in
+    let c4 = c3 .before in
+    let c6 = c4 .before .before in
+    let c8 = c6 .before .before in
+    number-short _ _ _ (c8 .pre) (c6 .if1 .left) (c3 .if2 .left) (sym (c .if3 .left) ∙ c .before .is-digit .ensures) (c4 .value .ensures .0)
 
 pub number-at-spec : {M : Type 1} → statement M
 number-at-spec =

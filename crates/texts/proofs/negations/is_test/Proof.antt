@@ -1,3 +1,4 @@
+-- `is_test` is the test `test?`: each step is one byte of it.
 use native.Mathlib.Omega.{arith}
 use mathlib.Core.Path.{_≡_, refl, sym, _∙_}
 use Prim.Native.Nat.{_-_, _≤_}
@@ -20,10 +21,15 @@ shared-slice-read-b : tie.Need-shared-slice-read-b Inv-loop μ-loop
 shared-slice-read-b c = omega arith
 
 returns : tie.Need-returns Inv-loop μ-loop
-returns c = sym (c .before .before .before .loop .inv .2 ∙ test-colon _ _ (c .before .before .loop-test .taken) (c .if1 .taken))
+returns c =
+    let c3 = c .before .before .before in
+    sym (c3 .loop .inv .2 ∙ test-colon _ _ (c .before .before .loop-test .taken) (c .if1 .taken))
 
 returns-2 : tie.Need-returns-2 Inv-loop μ-loop
-returns-2 c = sym (c .before .before .before .before .loop .inv .2 ∙ test-equals _ _ (c .before .before .before .loop-test .taken) (c .before .if1 .left) (c .if2 .taken))
+returns-2 c =
+    let c3 = c .before .before .before in
+    let c4 = c3 .before in
+    sym (c4 .loop .inv .2 ∙ test-equals _ _ (c3 .loop-test .taken) (c .before .if1 .left) (c .if2 .taken))
 
 add-i : tie.Need-add-i Inv-loop μ-loop
 add-i c = omega arith
@@ -32,7 +38,10 @@ loop-less : tie.Need-loop-less Inv-loop μ-loop
 loop-less c = omega arith
 
 loop-again : tie.Need-loop-again Inv-loop μ-loop
-loop-again c = (omega arith, omega arith, c .before .before .before .before .loop .inv .2 ∙ test-later _ _ (c .before .before .before .loop-test .taken) (c .before .if1 .left) (c .if2 .left))
+loop-again c =
+    let c3 = c .before .before .before in
+    let c4 = c3 .before in
+    (omega arith, omega arith, c4 .loop .inv .2 ∙ test-later _ _ (c3 .loop-test .taken) (c .before .if1 .left) (c .if2 .left))
 
 returns-3 : tie.Need-returns-3 Inv-loop μ-loop
 returns-3 c = sym (c .before .loop .inv .2 ∙ test-none _ _ (omega arith) (c .before .loop .inv .1))

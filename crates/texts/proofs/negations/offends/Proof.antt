@@ -1,3 +1,4 @@
+-- `offends` is the test `offends?`: from its byte and the operand after it.
 use borrow.Author.Needs.{needs}
 use Rattle.texts.proofs.Passes.{offends-here, offends-not}
 use Rattle.texts.proofs.negations.offends.Statement.{statement}

@@ -1,3 +1,4 @@
+-- `opened` counts parentheses as `open-after` does: by the byte.
 use borrow.Author.Needs.{needs}
 use Rattle.texts.proofs.Passes.{open-more, open-none, open-fewer, open-same}
 use Rattle.texts.proofs.negations.opened.Statement.{statement}

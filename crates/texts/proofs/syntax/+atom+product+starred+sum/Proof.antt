@@ -1,17 +1,17 @@
+-- The four functions of the grammar's ranks move the run over what they read: each return is one law of Moves. What is left of the
+-- text falls, and at one offset the rank.
 use borrow.Author.Needs.{needs}
 use borrow.Author.Tests.{eq-eqb, ne-eqb}
 use native.Mathlib.Omega.{arith}
-use mathlib.Core.Path.{_≡_, refl, ap, sym, _∙_, subst}
-use mathlib.Core.Bool.{Bool, false, true, _||_}
+use mathlib.Core.Path.{refl}
 use mathlib.Core.Logic.{inl, inr}
-use lib.ListN.{length, getD}
+use lib.ListN.{length}
 use Rattle.nodes.specs.Policies.{Policy}
-use Rattle.texts.specs.Machine.{inside, name, need, final, step, negs}
-use Rattle.texts.specs.Posts.{AtomPost, JoinPost, after-starred, after-product, after-sum}
-use Rattle.texts.specs.declared.syntax.Read.{Read}
-use Rattle.texts.proofs.Moves.{atom-end, atom-whole, atom-go, atom-stop, atom-bang, atom-over, paren-refused, paren-closed, paren-ends, paren-stops, step-semi, step-plus, join-stars, join-atom-refused, join-refused, join-stop, or-falses, join-told, atom-told, join-lt, join-from, atom-in, Joined, joined-none, joined-from, joined-in, joined-more, joined-last}
-use Prim.Native.Nat.{ℕ, _<_, _≤_, _+_, _-_, _*_}
-use mathlib.Core.List.{List}
+use Rattle.texts.specs.Machine.{inside, name, final, step, negs}
+use Rattle.texts.proofs.Moves.{atom-end, atom-whole, atom-go, atom-stop, atom-bang, atom-over, paren-refused, paren-closed, paren-ends, paren-stops}
+use Rattle.texts.proofs.Moves.{step-semi, step-plus, join-stars, join-atom-refused, join-refused, join-stop, or-falses, join-told, atom-told, join-lt}
+use Rattle.texts.proofs.Moves.{join-from, atom-in, Joined, joined-none, joined-from, joined-in, joined-more, joined-last}
+use Prim.Native.Nat.{ℕ, _<_, _+_, _-_, _*_}
 use borrow.Fn.Kinds.{In}
 use borrow.Fn.PlainCycle.{Measures, is, falls, and}
 use Rattle.texts.proofs.syntax.atom.Reads as atom
@@ -102,7 +102,11 @@ atom-add-t12 t c = search needs
 
 atom-returns-3 : (t : ℕ) → atom-lts.Need-returns-3 (atom-calls t) (atom-at t) atom.Post
 unfolding step
-atom-returns-3 t c = atom-whole _ _ _ _ (λ m. negs m Policy.skip) (omega arith) (λ sa pa m σ. simp (eq-eqb _ _ (c .if3 .taken), ne-eqb _ _ (c .before .if2 .left)))
+atom-returns-3 t c = atom-whole _ _ _ _ (λ m. negs m Policy.skip) (omega arith) (λ sa pa m σ. simp (
+  eq-eqb _ _ (c .if3 .taken),
+  ne-eqb _ _
+      (c .before .if2 .left),
+))
 
 atom-add-read-field : (t : ℕ) → atom-lts.Need-add-read-field (atom-calls t) (atom-at t) atom.Post
 atom-add-read-field t c = search needs
@@ -112,7 +116,11 @@ atom-read-field-requires t c κs = search needs
 
 atom-returns-4 : (t : ℕ) → atom-lts.Need-returns-4 (atom-calls t) (atom-at t) atom.Post
 unfolding step
-atom-returns-4 t c = atom-go _ _ _ (inside name) _ _ (omega arith) (λ sa pa m σ. simp (eq-eqb _ _ (c .before .if4 .taken), ne-eqb _ _ (c .before .before .before .if2 .left), ne-eqb _ _ (c .before .before .if3 .left))) (c .read-field .ensures _)
+atom-returns-4 t c =
+    let c3 = c .before .before .before in
+    atom-go _ _ _ (inside name) _ _ (omega arith)
+    (λ sa pa m σ. simp (eq-eqb _ _ (c .before .if4 .taken), ne-eqb _ _ (c3 .if2 .left), ne-eqb _ _ (c .before .before .if3 .left)))
+    (c .read-field .ensures _)
 
 atom-add-atom : (t : ℕ) → atom-lts.Need-add-atom (atom-calls t) (atom-at t) atom.Post
 atom-add-atom t c = search needs
@@ -142,29 +150,64 @@ atom-enum-known-inner : (t : ℕ) → atom-lts.Need-enum-known-inner (atom-calls
 atom-enum-known-inner t c = search needs
 
 atom-returns-7 : (t : ℕ) → atom-lts.Need-returns-7 (atom-calls t) (atom-at t) atom.Post
-atom-returns-7 t c = paren-refused _ _ _ (omega arith) (c .before .before .before .if7 .taken) (c .before .before .if8 .taken) _ (c .match .keys2) (c .before .sum .ensures)
+atom-returns-7 t c =
+    let c3 = c .before .before .before in
+    paren-refused _ _ _ (omega arith) (c3 .if7 .taken) (c .before .before .if8 .taken) _ (c .match .keys2) (c .before .sum .ensures)
 
 atom-returns-8 : (t : ℕ) → atom-lts.Need-returns-8 (atom-calls t) (atom-at t) atom.Post
-atom-returns-8 t c = paren-ends _ _ _ (omega arith) (c .before .before .before .before .before .before .if7 .taken) (c .before .before .before .before .before .if8 .taken) _ (join-told _ _ _ _ _ _ (c .before .before .inner .given .1) (c .before .before .before .before .sum .ensures)) (c .if9 .taken)
+atom-returns-8 t c =
+    let c4 = c .before .before .before .before in
+    let c5 = c4 .before in
+    let c6 = c5 .before in
+    paren-ends _ _ _ (omega arith) (c6 .if7 .taken) (c5 .if8 .taken) _ (join-told _ _ _ _ _ _ (c .before .before .inner .given .1) (c4 .sum .ensures))
+    (c .if9 .taken)
 
 atom-shared-slice-read-if10 : (t : ℕ) → atom-lts.Need-shared-slice-read-if10 (atom-calls t) (atom-at t) atom.Post
-atom-shared-slice-read-if10 t c = join-lt _ _ _ _ _ (join-told _ _ _ _ _ _ (c .before .before .before .inner .given .1) (c .before .before .before .before .before .sum .ensures)) (c .before .if9 .left)
+atom-shared-slice-read-if10 t c =
+    let c3 = c .before .before .before in
+    let c5 = c3 .before .before in
+    join-lt _ _ _ _ _ (join-told _ _ _ _ _ _ (c3 .inner .given .1) (c5 .sum .ensures)) (c .before .if9 .left)
 
 atom-add-t23 : (t : ℕ) → atom-lts.Need-add-t23 (atom-calls t) (atom-at t) atom.Post
-atom-add-t23 t c = let h = (join-lt _ _ _ _ _ (join-told _ _ _ _ _ _ (c .before .before .before .before .inner .given .1) (c .before .before .before .before .before .before .sum .ensures)) (c .before .before .if9 .left)) in omega arith
+atom-add-t23 t c =
+    let c4 = c .before .before .before .before in
+    let c6 = c4 .before .before in
+    let h = (join-lt _ _ _ _ _ (join-told _ _ _ _ _ _ (c4 .inner .given .1) (c6 .sum .ensures)) (c .before .before .if9 .left)) in omega arith
 
 atom-returns-9 : (t : ℕ) → atom-lts.Need-returns-9 (atom-calls t) (atom-at t) atom.Post
-atom-returns-9 t c = paren-closed _ _ _ (omega arith) (c .before .before .before .before .before .before .before .before .if7 .taken) (c .before .before .before .before .before .before .before .if8 .taken) _ (join-told _ _ _ _ _ _ (c .before .before .before .before .inner .given .1) (c .before .before .before .before .before .before .sum .ensures)) (join-lt _ _ _ _ _ (join-told _ _ _ _ _ _ (c .before .before .before .before .inner .given .1) (c .before .before .before .before .before .before .sum .ensures)) (c .before .before .if9 .left)) (c .if10 .taken)
+atom-returns-9 t c =
+    let c4 = c .before .before .before .before in
+    let c6 = c4 .before .before in
+    let c7 = c6 .before in
+    let c8 = c7 .before in
+    paren-closed _ _ _ (omega arith) (c8 .if7 .taken) (c7 .if8 .taken) _ (join-told _ _ _ _ _ _ (c4 .inner .given .1) (c6 .sum .ensures))
+    (join-lt _ _ _ _ _ (join-told _ _ _ _ _ _ (c4 .inner .given .1) (c6 .sum .ensures)) (c .before .before .if9 .left)) (c .if10 .taken)
 
 atom-returns-10 : (t : ℕ) → atom-lts.Need-returns-10 (atom-calls t) (atom-at t) atom.Post
-atom-returns-10 t c = paren-stops _ _ _ (omega arith) (c .before .before .before .before .before .before .before .before .if7 .taken) (c .before .before .before .before .before .before .before .if8 .taken) _ (join-told _ _ _ _ _ _ (c .before .before .before .before .inner .given .1) (c .before .before .before .before .before .before .sum .ensures)) (join-lt _ _ _ _ _ (join-told _ _ _ _ _ _ (c .before .before .before .before .inner .given .1) (c .before .before .before .before .before .before .sum .ensures)) (c .before .before .if9 .left)) (c .if10 .left)
+atom-returns-10 t c =
+    let c4 = c .before .before .before .before in
+    let c6 = c4 .before .before in
+    let c7 = c6 .before in
+    let c8 = c7 .before in
+    paren-stops _ _ _ (omega arith) (c8 .if7 .taken) (c7 .if8 .taken) _ (join-told _ _ _ _ _ _ (c4 .inner .given .1) (c6 .sum .ensures))
+    (join-lt _ _ _ _ _ (join-told _ _ _ _ _ _ (c4 .inner .given .1) (c6 .sum .ensures)) (c .before .before .if9 .left)) (c .if10 .left)
 
 atom-returns-11 : (t : ℕ) → atom-lts.Need-returns-11 (atom-calls t) (atom-at t) atom.Post
 atom-returns-11 t c = atom-over _ _ _ (omega arith) (inr (c .before .if7 .taken)) (c .if8 .left)
 
 atom-returns-12 : (t : ℕ) → atom-lts.Need-returns-12 (atom-calls t) (atom-at t) atom.Post
 unfolding step
-atom-returns-12 t c = atom-stop _ _ _ _ (omega arith) (λ sa pa m σ. simp (ne-eqb _ _ (c .before .before .before .before .if2 .left), ne-eqb _ _ (c .before .before .before .if3 .left), ne-eqb _ _ (c .before .before .if4 .left), ne-eqb _ _ (c .before .if5 .left), ne-eqb _ _ (c .if7 .left)))
+atom-returns-12 t c =
+    let c3 = c .before .before .before in
+    let c4 = c3 .before in
+    atom-stop _ _ _ _ (omega arith) (λ sa pa m σ. simp (
+      ne-eqb _ _ (c4 .if2 .left),
+      ne-eqb _ _ (c3 .if3 .left),
+      ne-eqb _ _ (c .before .before .if4 .left),
+      ne-eqb _ _ (c .before .if5 .left),
+      ne-eqb _ _
+          (c .if7 .left),
+    ))
 
 abbrev product-Inv-loop : product-lts.InvT-loop
 product-Inv-loop text at depth from₀ from = Joined text depth at from
@@ -188,29 +231,49 @@ product-returns : (t : ℕ) → product-lts.Need-returns (product-calls t) (prod
 product-returns t c = joined-last _ _ _ _ _ _ (c .before .before .loop .inv) (join-refused _ _ _ _ _ _ (c .match .keys2) (c .before .starred .ensures))
 
 product-returns-2 : (t : ℕ) → product-lts.Need-returns-2 (product-calls t) (product-at t) product.Post product-Inv-loop product-μ-loop
-product-returns-2 t c = joined-last _ _ _ _ _ _ (c .before .before .before .before .before .loop .inv)
-    (join-stop _ _ _ _ _ _ (λ l q. absurd (omega (arith, c .if1 .taken))) (join-told _ _ _ _ _ _ (c .before .before .next .given .1) (c .before .before .before .before .starred .ensures)))
+product-returns-2 t c =
+    let c4 = c .before .before .before .before in
+    let c5 = c4 .before in
+    joined-last _ _ _ _ _ _ (c5 .loop .inv)
+    (join-stop _ _ _ _ _ _ (λ l q. absurd (omega (arith, c .if1 .taken)))
+    (join-told _ _ _ _ _ _ (c .before .before .next .given .1) (c4 .starred .ensures)))
 
 product-shared-slice-read-if2 : (t : ℕ) → product-lts.Need-shared-slice-read-if2 (product-calls t) (product-at t) product.Post product-Inv-loop product-μ-loop
-product-shared-slice-read-if2 t c = join-lt _ _ _ _ _ (join-told _ _ _ _ _ _ (c .before .before .before .next .given .1) (c .before .before .before .before .before .starred .ensures)) (c .before .if1 .left)
+product-shared-slice-read-if2 t c =
+    let c3 = c .before .before .before in
+    let c5 = c3 .before .before in
+    join-lt _ _ _ _ _ (join-told _ _ _ _ _ _ (c3 .next .given .1) (c5 .starred .ensures)) (c .before .if1 .left)
 
 product-returns-3 : (t : ℕ) → product-lts.Need-returns-3 (product-calls t) (product-at t) product.Post product-Inv-loop product-μ-loop
-product-returns-3 t c = joined-last _ _ _ _ _ _ (c .before .before .before .before .before .before .before .loop .inv)
-    (join-stop _ _ _ _ _ _ (λ l q. or-falses _ _ q (ne-eqb _ _ (c .if2 .taken))) (join-told _ _ _ _ _ _ (c .before .before .before .before .next .given .1) (c .before .before .before .before .before .before .starred .ensures)))
+product-returns-3 t c =
+    let c4 = c .before .before .before .before in
+    let c6 = c4 .before .before in
+    let c7 = c6 .before in
+    joined-last _ _ _ _ _ _ (c7 .loop .inv)
+    (join-stop _ _ _ _ _ _ (λ l q. or-falses _ _ q (ne-eqb _ _ (c .if2 .taken))) (join-told _ _ _ _ _ _ (c4 .next .given .1) (c6 .starred .ensures)))
 
 product-add-from : (t : ℕ) → product-lts.Need-add-from (product-calls t) (product-at t) product.Post product-Inv-loop product-μ-loop
-product-add-from t c = let h = join-lt _ _ _ _ _ (join-told _ _ _ _ _ _ (c .before .before .before .before .next .given .1) (c .before .before .before .before .before .before .starred .ensures)) (c .before .before .if1 .left) in omega arith
+product-add-from t c =
+    let c4 = c .before .before .before .before in
+    let c6 = c4 .before .before in
+    let h = join-lt _ _ _ _ _ (join-told _ _ _ _ _ _ (c4 .next .given .1) (c6 .starred .ensures)) (c .before .before .if1 .left) in omega arith
 
 product-loop-less : (t : ℕ) → product-lts.Need-loop-less (product-calls t) (product-at t) product.Post product-Inv-loop product-μ-loop
 product-loop-less t c =
-    let h = join-lt _ _ _ _ _ (join-told _ _ _ _ _ _ (c .before .before .before .before .next .given .1) (c .before .before .before .before .before .before .starred .ensures)) (c .before .before .if1 .left) in
-    let k = join-from _ _ _ _ _ (join-told _ _ _ _ _ _ (c .before .before .before .before .next .given .1) (c .before .before .before .before .before .before .starred .ensures)) in
+    let c4 = c .before .before .before .before in
+    let c6 = c4 .before .before in
+    let h = join-lt _ _ _ _ _ (join-told _ _ _ _ _ _ (c4 .next .given .1) (c6 .starred .ensures)) (c .before .before .if1 .left) in
+    let k = join-from _ _ _ _ _ (join-told _ _ _ _ _ _ (c4 .next .given .1) (c6 .starred .ensures)) in
     omega arith
 
 product-loop-again : (t : ℕ) → product-lts.Need-loop-again (product-calls t) (product-at t) product.Post product-Inv-loop product-μ-loop
 product-loop-again t c =
-    let read = join-told _ _ _ _ _ _ (c .before .before .before .before .next .given .1) (c .before .before .before .before .before .before .starred .ensures) in
-    joined-more _ _ _ _ _ _ (join-lt _ _ _ _ _ read (c .before .before .if1 .left)) (λ v sa pa σ. (_, _, step-semi v sa pa σ _ (c .if2 .left))) (c .before .before .before .before .before .before .before .loop .inv) read
+    let c4 = c .before .before .before .before in
+    let c6 = c4 .before .before in
+    let c7 = c6 .before in
+    let read = join-told _ _ _ _ _ _ (c4 .next .given .1) (c6 .starred .ensures) in
+    joined-more _ _ _ _ _ _ (join-lt _ _ _ _ _ read (c .before .before .if1 .left)) (λ v sa pa σ. (_, _, step-semi v sa pa σ _ (c .if2 .left)))
+    (c7 .loop .inv) read
 
 starred-atom-requires : (t : ℕ) → starred-lts.Need-atom-requires (starred-calls t) (starred-at t) starred.Post
 starred-atom-requires t c κs = omega arith
@@ -222,10 +285,14 @@ starred-returns : (t : ℕ) → starred-lts.Need-returns (starred-calls t) (star
 starred-returns t c = join-atom-refused _ _ _ _ _ (c .match .keys2) (c .before .atom .ensures)
 
 starred-stars-requires : (t : ℕ) → starred-lts.Need-stars-requires (starred-calls t) (starred-at t) starred.Post
-starred-stars-requires t c κs = atom-in _ _ _ _ (atom-told _ _ _ _ _ _ (c .before .first .given .1) (c .before .before .before .atom .ensures))
+starred-stars-requires t c κs =
+    let c3 = c .before .before .before in
+    atom-in _ _ _ _ (atom-told _ _ _ _ _ _ (c .before .first .given .1) (c3 .atom .ensures))
 
 starred-returns-2 : (t : ℕ) → starred-lts.Need-returns-2 (starred-calls t) (starred-at t) starred.Post
-starred-returns-2 t c = join-stars _ _ _ _ _ (atom-told _ _ _ _ _ _ (c .before .before .first .given .1) (c .before .before .before .before .atom .ensures)) (c .stars .ensures)
+starred-returns-2 t c =
+    let c4 = c .before .before .before .before in
+    join-stars _ _ _ _ _ (atom-told _ _ _ _ _ _ (c .before .before .first .given .1) (c4 .atom .ensures)) (c .stars .ensures)
 
 abbrev sum-Inv-loop : sum-lts.InvT-loop
 sum-Inv-loop text at depth from₀ from = Joined text depth at from
@@ -249,29 +316,49 @@ sum-returns : (t : ℕ) → sum-lts.Need-returns (sum-calls t) (sum-at t) sum.Po
 sum-returns t c = joined-last _ _ _ _ _ _ (c .before .before .loop .inv) (join-refused _ _ _ _ _ _ (c .match .keys2) (c .before .product .ensures))
 
 sum-returns-2 : (t : ℕ) → sum-lts.Need-returns-2 (sum-calls t) (sum-at t) sum.Post sum-Inv-loop sum-μ-loop
-sum-returns-2 t c = joined-last _ _ _ _ _ _ (c .before .before .before .before .before .loop .inv)
-    (join-stop _ _ _ _ _ _ (λ l q. absurd (omega (arith, c .if1 .taken))) (join-told _ _ _ _ _ _ (c .before .before .next .given .1) (c .before .before .before .before .product .ensures)))
+sum-returns-2 t c =
+    let c4 = c .before .before .before .before in
+    let c5 = c4 .before in
+    joined-last _ _ _ _ _ _ (c5 .loop .inv)
+    (join-stop _ _ _ _ _ _ (λ l q. absurd (omega (arith, c .if1 .taken)))
+    (join-told _ _ _ _ _ _ (c .before .before .next .given .1) (c4 .product .ensures)))
 
 sum-shared-slice-read-if2 : (t : ℕ) → sum-lts.Need-shared-slice-read-if2 (sum-calls t) (sum-at t) sum.Post sum-Inv-loop sum-μ-loop
-sum-shared-slice-read-if2 t c = join-lt _ _ _ _ _ (join-told _ _ _ _ _ _ (c .before .before .before .next .given .1) (c .before .before .before .before .before .product .ensures)) (c .before .if1 .left)
+sum-shared-slice-read-if2 t c =
+    let c3 = c .before .before .before in
+    let c5 = c3 .before .before in
+    join-lt _ _ _ _ _ (join-told _ _ _ _ _ _ (c3 .next .given .1) (c5 .product .ensures)) (c .before .if1 .left)
 
 sum-returns-3 : (t : ℕ) → sum-lts.Need-returns-3 (sum-calls t) (sum-at t) sum.Post sum-Inv-loop sum-μ-loop
-sum-returns-3 t c = joined-last _ _ _ _ _ _ (c .before .before .before .before .before .before .before .loop .inv)
-    (join-stop _ _ _ _ _ _ (λ l q. or-falses _ _ q (ne-eqb _ _ (c .if2 .taken))) (join-told _ _ _ _ _ _ (c .before .before .before .before .next .given .1) (c .before .before .before .before .before .before .product .ensures)))
+sum-returns-3 t c =
+    let c4 = c .before .before .before .before in
+    let c6 = c4 .before .before in
+    let c7 = c6 .before in
+    joined-last _ _ _ _ _ _ (c7 .loop .inv)
+    (join-stop _ _ _ _ _ _ (λ l q. or-falses _ _ q (ne-eqb _ _ (c .if2 .taken))) (join-told _ _ _ _ _ _ (c4 .next .given .1) (c6 .product .ensures)))
 
 sum-add-from : (t : ℕ) → sum-lts.Need-add-from (sum-calls t) (sum-at t) sum.Post sum-Inv-loop sum-μ-loop
-sum-add-from t c = let h = join-lt _ _ _ _ _ (join-told _ _ _ _ _ _ (c .before .before .before .before .next .given .1) (c .before .before .before .before .before .before .product .ensures)) (c .before .before .if1 .left) in omega arith
+sum-add-from t c =
+    let c4 = c .before .before .before .before in
+    let c6 = c4 .before .before in
+    let h = join-lt _ _ _ _ _ (join-told _ _ _ _ _ _ (c4 .next .given .1) (c6 .product .ensures)) (c .before .before .if1 .left) in omega arith
 
 sum-loop-less : (t : ℕ) → sum-lts.Need-loop-less (sum-calls t) (sum-at t) sum.Post sum-Inv-loop sum-μ-loop
 sum-loop-less t c =
-    let h = join-lt _ _ _ _ _ (join-told _ _ _ _ _ _ (c .before .before .before .before .next .given .1) (c .before .before .before .before .before .before .product .ensures)) (c .before .before .if1 .left) in
-    let k = join-from _ _ _ _ _ (join-told _ _ _ _ _ _ (c .before .before .before .before .next .given .1) (c .before .before .before .before .before .before .product .ensures)) in
+    let c4 = c .before .before .before .before in
+    let c6 = c4 .before .before in
+    let h = join-lt _ _ _ _ _ (join-told _ _ _ _ _ _ (c4 .next .given .1) (c6 .product .ensures)) (c .before .before .if1 .left) in
+    let k = join-from _ _ _ _ _ (join-told _ _ _ _ _ _ (c4 .next .given .1) (c6 .product .ensures)) in
     omega arith
 
 sum-loop-again : (t : ℕ) → sum-lts.Need-loop-again (sum-calls t) (sum-at t) sum.Post sum-Inv-loop sum-μ-loop
 sum-loop-again t c =
-    let read = join-told _ _ _ _ _ _ (c .before .before .before .before .next .given .1) (c .before .before .before .before .before .before .product .ensures) in
-    joined-more _ _ _ _ _ _ (join-lt _ _ _ _ _ read (c .before .before .if1 .left)) (λ v sa pa σ. (_, _, step-plus v sa pa σ _ (c .if2 .left))) (c .before .before .before .before .before .before .before .loop .inv) read
+    let c4 = c .before .before .before .before in
+    let c6 = c4 .before .before in
+    let c7 = c6 .before in
+    let read = join-told _ _ _ _ _ _ (c4 .next .given .1) (c6 .product .ensures) in
+    joined-more _ _ _ _ _ _ (join-lt _ _ _ _ _ read (c .before .before .if1 .left)) (λ v sa pa σ. (_, _, step-plus v sa pa σ _ (c .if2 .left)))
+    (c7 .loop .inv) read
 
 pub +atom+product+starred+sum-spec : {M : Type 1} → statement M
 +atom+product+starred+sum-spec = close μ-atom μ-product μ-starred μ-sum (λ t. atom-lts.spec (atom-calls t)

@@ -1,14 +1,13 @@
+-- `read_bit` moves the run over b: by the byte.
 use borrow.Author.Needs.{needs}
 use borrow.Author.Tests.{eq-eqb, ne-eqb}
 use native.Mathlib.Omega.{arith}
-use mathlib.Core.Path.{refl, ap}
+use mathlib.Core.Path.{refl}
 use mathlib.Core.Bool.{false, true}
-use Rattle.texts.specs.Machine.{inside, bit, final, step, mid-step, mid-go, negs, leaf}
+use Rattle.texts.specs.Machine.{final, step, mid-step, mid-go, negs, leaf}
 use Rattle.texts.proofs.Moves.{atom-end, atom-whole, atom-stop}
 use Rattle.texts.proofs.syntax.read_bit.Statement.{statement}
 use Rattle.texts.proofs.syntax.read_bit.Tie as tie
-use Rattle.texts.proofs.syntax.read_bit.Reads as reads
-use Rattle.texts.proofs.syntax.read_bit.Lts as lts
 
 returns : tie.Need-returns
 unfolding final
@@ -29,7 +28,9 @@ add-t9 c = search needs
 
 returns-3 : tie.Need-returns-3
 unfolding step mid-step mid-go
-returns-3 c = λ k n d. atom-whole _ d _ _ (λ m. negs m (leaf k n true)) (omega arith) (λ sa pa m σ. simp (eq-eqb _ _ (c .if3 .taken), ne-eqb _ _ (c .before .if2 .left)))
+returns-3 c =
+    λ k n d. atom-whole _ d _ _ (λ m. negs m (leaf k n true)) (omega arith)
+    (λ sa pa m σ. simp (eq-eqb _ _ (c .if3 .taken), ne-eqb _ _ (c .before .if2 .left)))
 
 returns-4 : tie.Need-returns-4
 unfolding step mid-step mid-go

@@ -1,18 +1,14 @@
+-- `read_field` moves the run over what follows `x`: by one or two digits, then `read_relation`.
 use borrow.Author.Tests.{eq-eqb, ne-eqb}
 use native.Mathlib.Omega.{arith}
-use mathlib.Core.Path.{refl, ap, sym, _∙_}
-use mathlib.Core.Bool.{false, true}
-use Prim.Native.Nat.{_-_, _+_, _*_, _≤_}
-use lib.ListN.{length, getD}
-use Rattle.texts.specs.Machine.{inside, bit, colon, name, named, digit, final, step, mid-step, mid-go, after-name}
+use mathlib.Core.Path.{refl, sym, _∙_}
+use Prim.Native.Nat.{_-_, _+_, _*_}
+use lib.ListN.{getD}
+use Rattle.texts.specs.Machine.{inside, named, digit, final, step, mid-step, mid-go, after-name}
 use Rattle.texts.proofs.Moves.{atom-end, atom-go, atom-stop, atom-same}
 use borrow.Author.Needs.{needs}
 use Rattle.texts.proofs.syntax.read_field.Statement.{statement}
 use Rattle.texts.proofs.syntax.read_field.Tie as tie
-use Rattle.texts.proofs.syntax.read_field.Reads as reads
-use Rattle.texts.proofs.syntax.read_field.Lts as lts
-use Rattle.texts.proofs.is_digit.Reads as is-digit-reads
-use Rattle.texts.proofs.syntax.read_relation.Reads as read-relation-reads
 
 returns : tie.Need-returns
 unfolding final
@@ -39,7 +35,12 @@ add-next c = search needs
 
 returns-3 : tie.Need-returns-3
 unfolding step mid-step mid-go after-name final
-returns-3 c = λ d. atom-go _ d _ (inside (digit (getD (c .before .before .before .before .before .before .before .args .text .now) (c .before .before .before .before .before .before .before .args .at) 0 - 48))) _ _ (omega arith) (λ sa pa m σ. simp (ne-eqb _ _ (c .before .before .before .if2 .left), (sym (c .before .before .is-digit .ensures) ∙ c .before .if3 .taken))) (atom-end _ d _ _ (c .if4 .taken) (λ sa pa m σ. refl))
+returns-3 c =
+    let c3 = c .before .before .before in
+    let c7 = c3 .before .before .before .before in
+    λ d. atom-go _ d _ (inside (digit (getD (c7 .args .text .now) (c7 .args .at) 0 - 48))) _ _ (omega arith)
+    (λ sa pa m σ. simp (ne-eqb _ _ (c3 .if2 .left), (sym (c .before .before .is-digit .ensures) ∙ c .before .if3 .taken)))
+    (atom-end _ d _ _ (c .if4 .taken) (λ sa pa m σ. refl))
 
 shared-slice-read-is-digit : tie.Need-shared-slice-read-is-digit
 shared-slice-read-is-digit c = search needs
@@ -55,18 +56,37 @@ read-relation-requires-2 c κs = search needs
 
 returns-4 : tie.Need-returns-4
 unfolding step mid-step mid-go after-name
-returns-4 c = λ d. atom-go _ d _ (inside (digit (getD (c .before .before .before .before .before .before .before .before .before .before .before .args .text .now) (c .before .before .before .before .before .before .before .before .before .before .before .args .at) 0 - 48))) _ _ (omega arith) (λ sa pa m σ. simp (ne-eqb _ _ (c .before .before .before .before .before .before .before .if2 .left), (sym (c .before .before .before .before .before .before .is-digit .ensures) ∙ c .before .before .before .before .before .if3 .taken))) (atom-go _ d _ (inside (named ((getD (c .before .before .before .before .before .before .before .before .before .before .before .args .text .now) (c .before .before .before .before .before .before .before .before .before .before .before .args .at) 0 - 48) * 10 + (getD (c .before .before .before .before .before .before .before .before .before .before .before .args .text .now) (c .before .before .before .before .before .before .before .before .before .before .before .args .at + 1) 0 - 48)))) _ _ (omega arith) (λ sa pa m σ. simp (sym (c .before .before .is-digit2 .ensures) ∙ c .before .if5 .taken)) (c .read-relation2 .ensures _ d))
+returns-4 c =
+    let c5 = c .before .before .before .before .before in
+    let c6 = c5 .before in
+    let c7 = c6 .before in
+    let c11 = c7 .before .before .before .before in
+    λ d. atom-go _ d _ (inside (digit (getD (c11 .args .text .now) (c11 .args .at) 0 - 48))) _ _ (omega arith)
+    (λ sa pa m σ. simp (ne-eqb _ _ (c7 .if2 .left), (sym (c6 .is-digit .ensures) ∙ c5 .if3 .taken)))
+    (atom-go _ d _ (inside (named ((getD (c11 .args .text .now) (c11 .args .at) 0 - 48) * 10 +
+    (getD (c11 .args .text .now) (c11 .args .at + 1) 0 - 48)))) _ _ (omega arith)
+    (λ sa pa m σ. simp (sym (c .before .before .is-digit2 .ensures) ∙ c .before .if5 .taken)) (c .read-relation2 .ensures _ d))
 
 read-relation-requires-3 : tie.Need-read-relation-requires-3
 read-relation-requires-3 c κs = search needs
 
 returns-5 : tie.Need-returns-5
 unfolding step mid-step mid-go after-name
-returns-5 c = λ d. atom-go _ d _ (inside (digit (getD (c .before .before .before .before .before .before .before .before .before .before .before .args .text .now) (c .before .before .before .before .before .before .before .before .before .before .before .args .at) 0 - 48))) _ _ (omega arith) (λ sa pa m σ. simp (ne-eqb _ _ (c .before .before .before .before .before .before .before .if2 .left), (sym (c .before .before .before .before .before .before .is-digit .ensures) ∙ c .before .before .before .before .before .if3 .taken))) (atom-same _ d _ (inside (named (getD (c .before .before .before .before .before .before .before .before .before .before .before .args .text .now) (c .before .before .before .before .before .before .before .before .before .before .before .args .at) 0 - 48))) _ _ (omega arith) (λ sa pa m σ. simp (sym (c .before .before .is-digit2 .ensures) ∙ c .before .if5 .left)) (c .read-relation3 .ensures _ d))
+returns-5 c =
+    let c5 = c .before .before .before .before .before in
+    let c6 = c5 .before in
+    let c7 = c6 .before in
+    let c11 = c7 .before .before .before .before in
+    λ d. atom-go _ d _ (inside (digit (getD (c11 .args .text .now) (c11 .args .at) 0 - 48))) _ _ (omega arith)
+    (λ sa pa m σ. simp (ne-eqb _ _ (c7 .if2 .left), (sym (c6 .is-digit .ensures) ∙ c5 .if3 .taken)))
+    (atom-same _ d _ (inside (named (getD (c11 .args .text .now) (c11 .args .at) 0 - 48))) _ _ (omega arith)
+    (λ sa pa m σ. simp (sym (c .before .before .is-digit2 .ensures) ∙ c .before .if5 .left)) (c .read-relation3 .ensures _ d))
 
 returns-6 : tie.Need-returns-6
 unfolding step mid-step mid-go after-name
-returns-6 c = λ d. atom-stop _ d _ _ (omega arith) (λ sa pa m σ. simp (ne-eqb _ _ (c .before .before .if2 .left), sym (c .before .is-digit .ensures) ∙ c .if3 .left))
+returns-6 c =
+    λ d. atom-stop _ d _ _ (omega arith) (λ sa pa m σ. simp
+    (ne-eqb _ _ (c .before .before .if2 .left), sym (c .before .is-digit .ensures) ∙ c .if3 .left))
 
 pub read-field-spec : {M : Type 1} → statement M
 read-field-spec =

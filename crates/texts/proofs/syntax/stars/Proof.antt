@@ -1,17 +1,10 @@
-use borrow.Author.Tests.{eq-eqb, ne-eqb}
+-- `stars` moves the run over the `*` after an item: each step is one of them.
 use native.Mathlib.Omega.{arith}
-use mathlib.Core.Path.{refl, ap, sym, _∙_}
-use mathlib.Core.Bool.{false, true}
-use Prim.Native.Nat.{_-_, _+_, _*_, _≤_}
-use lib.ListN.{length, getD}
-use Rattle.texts.specs.Machine.{inside, bit, colon, name, post, named, digit, final, step, mid-step, mid-go, after-name}
+use Prim.Native.Nat.{_-_, _≤_}
+use lib.ListN.{length}
 use Rattle.texts.proofs.Moves.{Stars, stars-none, stars-more, stars-post}
-use mathlib.Core.Path.{_≡_}
-use Rattle.texts.specs.Posts.{run-at}
 use Rattle.texts.proofs.syntax.stars.Statement.{statement}
 use Rattle.texts.proofs.syntax.stars.Tie as tie
-use Rattle.texts.proofs.syntax.stars.Reads as reads
-use Rattle.texts.proofs.syntax.stars.Lts as lts
 
 abbrev Inv-loop : tie.InvT-loop
 Inv-loop text at i₀ i = (at ≤ i) × (i ≤ length text) × Stars text at i
@@ -26,7 +19,9 @@ shared-slice-read-if1 : tie.Need-shared-slice-read-if1 Inv-loop μ-loop
 shared-slice-read-if1 c = omega arith
 
 returns : tie.Need-returns Inv-loop μ-loop
-returns c = stars-post _ _ _ (c .before .before .before .loop .inv .0) (c .before .before .before .loop .inv .1) (λ g. c .if1 .taken) (c .before .before .before .loop .inv .2)
+returns c =
+    let c3 = c .before .before .before in
+    stars-post _ _ _ (c3 .loop .inv .0) (c3 .loop .inv .1) (λ g. c .if1 .taken) (c3 .loop .inv .2)
 
 add-i : tie.Need-add-i Inv-loop μ-loop
 add-i c = omega arith
@@ -35,7 +30,9 @@ loop-less : tie.Need-loop-less Inv-loop μ-loop
 loop-less c = omega arith
 
 loop-again : tie.Need-loop-again Inv-loop μ-loop
-loop-again c = (omega arith, omega arith, stars-more _ _ _ (c .before .before .loop-test .taken) (c .if1 .left) (c .before .before .before .loop .inv .2))
+loop-again c =
+    let c3 = c .before .before .before in
+    (omega arith, omega arith, stars-more _ _ _ (c .before .before .loop-test .taken) (c .if1 .left) (c3 .loop .inv .2))
 
 returns-2 : tie.Need-returns-2 Inv-loop μ-loop
 returns-2 c = stars-post _ _ _ (c .before .loop .inv .0) (c .before .loop .inv .1) (λ g. absurd (omega arith)) (c .before .loop .inv .2)
