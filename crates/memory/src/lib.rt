@@ -34,6 +34,14 @@ pub fn wide(x: u32) -> usize
     x as usize
 }
 
+// A number below 256, as a level.
+pub fn narrow(x: u32) -> u8
+    requires { ⌜ x < 256 ⌝ }
+    ensures { λ r. ⌜ r ≡ x ⌝ }
+{
+    x as u8
+}
+
 // How many nodes of c numbers fit, at most 4,096.
 pub fn places_of(len: usize, c: usize) -> usize
     requires { ⌜ 0 < c ⌝ }

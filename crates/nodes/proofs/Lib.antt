@@ -23,4 +23,5 @@ pub mod YesNo
 pub mod ReadOnly
 pub mod New
 pub mod Numbers
+pub mod Policies
 pub mod Worked

@@ -10,3 +10,4 @@ pub mod WellFormed
 pub mod Meaning
 pub mod Places
 pub mod Safety
+pub mod Policies

@@ -10,6 +10,11 @@ module _ {C A X : Type 0} (answer : C → X → A) (next : C → X → X) where
   turn-parted [] later x = refl
   turn-parted (c ∷ before) later x = turn-parted before later (next c x)
 
+  pub each-before : (Q : C → X → Type 0) (before later : List C) (x : X) → each-call next Q (before ++ later) x → each-call next Q before x
+  unfolding each-call
+  each-before Q [] later x r = tt
+  each-before Q (c ∷ before) later x r = (r .0, each-before Q before later (next c x) (r .1))
+
   pub each-later : (Q : C → X → Type 0) (before later : List C) (x : X) → each-call next Q (before ++ later) x
       → each-call next Q later (in-turn answer next before x .state)
   unfolding in-turn each-call

@@ -98,7 +98,7 @@ pub fn new(relations: &mut [u32], sets: &mut [u32], work: &mut [u32], k: u32) ->
             begin(relations, 2, 4);
             begin(sets, 1, 2);
             relations[0] = l;
-            let r = fill(relations, sets, work, crate::narrow(l));
+            let r = fill(relations, sets, work, memory::narrow(l));
             nodes::clear(work);
             r
         }

@@ -70,7 +70,7 @@ fn judged(relations: &mut [u32], sets: &[u32], work: &mut [u32], call: FilterCal
                 &mut relations[2..],
                 work,
                 s,
-                crate::narrow(l),
+                memory::narrow(l),
                 call,
             );
             crate::finish::finish(relations, 2, 4, n, r)

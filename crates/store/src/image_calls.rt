@@ -80,7 +80,7 @@ fn judged(relations: &[u32], sets: &mut [u32], work: &mut [u32], call: ImageCall
                 &mut sets[1..],
                 work,
                 s,
-                crate::narrow(l),
+                memory::narrow(l),
                 call,
             );
             crate::finish::finish(sets, 1, 2, m, r)

@@ -1,6 +1,5 @@
 // The public calls of a packet store on two lent memories.
 ghost use mathlib.Core.Path.{_≡_};
-ghost use Prim.Native.Nat.{_<_};
 ghost use Rattle.store.specs.Answers.{number};
 
 pub mod creation;
@@ -53,12 +52,4 @@ pub fn number_of(r: Refusal) -> u32
         Refusal::UsedUp => 6,
         Refusal::TooLong => 10,
     }
-}
-
-// A number below 256.
-fn narrow(x: u32) -> u8
-    requires { ⌜ x < 256 ⌝ }
-    ensures { λ r. ⌜ r ≡ x ⌝ }
-{
-    x as u8
 }

@@ -261,7 +261,7 @@ pub(crate) fn packets(
 {
     let check = one(nodes, 4, n, k, a);
     if let crate::Check::Level(l) = check {
-        let most = power(crate::narrow(l));
+        let most = power(memory::narrow(l));
         if wide(input) >= most {
             return crate::Check::No(crate::Refusal::OutOfRange);
         }

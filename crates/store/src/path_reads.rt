@@ -80,7 +80,7 @@ fn judged(relations: &[u32], sets: &[u32], work: &mut [u32], call: PathRead) -> 
             &sets[1..],
             work,
             m,
-            crate::narrow(l),
+            memory::narrow(l),
             call,
         ),
     }

@@ -85,7 +85,7 @@ fn perform(
             work,
             s,
             k,
-            crate::narrow(var),
+            memory::narrow(var),
             value == 1,
         ),
         RelationCall::Assign(var, value) => relations::fields::assign(
@@ -93,7 +93,7 @@ fn perform(
             work,
             s,
             k,
-            crate::narrow(var),
+            memory::narrow(var),
             value == 1,
         ),
         RelationCall::NaiveForward(a) => relations::products::naive_forward(
@@ -133,8 +133,8 @@ fn judged(
                 &mut relations[2..],
                 work,
                 s,
-                crate::narrow(k),
-                crate::narrow(l),
+                memory::narrow(k),
+                memory::narrow(l),
                 call,
             );
             crate::finish::finish(relations, 2, 4, n, r)

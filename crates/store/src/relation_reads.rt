@@ -95,7 +95,7 @@ fn judged(relations: &[u32], sets: &[u32], work: &mut [u32], call: RelationRead)
     let check = check(&relations[2..], n, k, call);
     match check {
         crate::Check::No(r) => crate::Answer::Declined(r),
-        crate::Check::Level(l) => answer(&relations[2..], work, n, crate::narrow(l), call),
+        crate::Check::Level(l) => answer(&relations[2..], work, n, memory::narrow(l), call),
     }
 }
 

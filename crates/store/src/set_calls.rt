@@ -65,7 +65,7 @@ fn perform(
             work,
             s,
             k,
-            crate::narrow(var),
+            memory::narrow(var),
             value == 1,
         ),
         SetCall::Ifelse(var, t, e) => sets::fields::ifelse(
@@ -73,7 +73,7 @@ fn perform(
             work,
             s,
             level,
-            crate::narrow(var),
+            memory::narrow(var),
             t,
             e,
         ),
@@ -101,8 +101,8 @@ fn judged(relations: &[u32], sets: &mut [u32], work: &mut [u32], call: SetCall) 
                 &mut sets[1..],
                 work,
                 s,
-                crate::narrow(k),
-                crate::narrow(l),
+                memory::narrow(k),
+                memory::narrow(l),
                 call,
             );
             crate::finish::finish(sets, 1, 2, n, r)

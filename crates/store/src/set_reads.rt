@@ -66,7 +66,7 @@ fn judged(relations: &[u32], sets: &[u32], work: &mut [u32], call: SetRead) -> c
     let check = check(&sets[1..], n, k, call);
     match check {
         crate::Check::No(r) => crate::Answer::Declined(r),
-        crate::Check::Level(l) => answer(&sets[1..], work, n, crate::narrow(l), call),
+        crate::Check::Level(l) => answer(&sets[1..], work, n, memory::narrow(l), call),
     }
 }
 

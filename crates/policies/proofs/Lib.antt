@@ -1,0 +1,12 @@
+pub mod Suffixes
+pub mod Digits
+pub mod Names
+pub mod Chains
+pub mod Loops
+pub mod Atoms
+pub mod TextOutcomes
+pub mod BuiltTexts
+pub mod OneText
+pub mod AllCalls
+pub mod Demand3
+pub mod WrongTexts

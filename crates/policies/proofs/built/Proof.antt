@@ -1,0 +1,71 @@
+-- `built` comes to the text's outcome: the build pass runs its policy's program, and `commit` ends it.
+use mathlib.Core.Path.{sym, _∙_}
+use Prim.Native.Nat.{_<_}
+use native.Mathlib.Omega.{arith}
+use borrow.Author.Needs.{needs}
+use Rattle.nodes.specs.Store.{rel}
+use Rattle.judging.specs.Memory.{memories}
+use Rattle.policies.proofs.BuiltTexts.{fitted, full, built-within, built-ran}
+use Rattle.policies.proofs.built.Statement.{statement}
+use Rattle.policies.proofs.built.Tie as tie
+
+slice-read-k : tie.Need-slice-read-k
+slice-read-k c =
+    let h = c .before .before .before .before .before .pre .0 .store .room rel .headed in omega arith
+
+slice-read-wide : tie.Need-slice-read-wide
+slice-read-wide c =
+    let h = c .before .before .before .before .before .before .pre .0 .store .room rel .headed in omega arith
+
+sub-build : tie.Need-sub-build
+sub-build c =
+    let h = c .before .before .before .before .before .before .before .pre .0 .store .room rel .headed in omega arith
+
+part-build-start : tie.Need-part-build-start
+part-build-start c =
+    let h = c .before .before .before .before .before .before .before .pre .0 .store .room rel .headed in omega arith
+
+narrow-requires : tie.Need-narrow-requires
+narrow-requires c κs =
+    let h = c .before .before .before .before .before .before .before .before .before .pre .0 .store .few in omega arith
+
+commit-requires : tie.Need-commit-requires
+commit-requires c κs =
+    let a = c .before .before .before .before .before .before .before .before .before .before .before .before .before .before .before .before .args in
+    let y = c .before .before .before .before .before .before .before .before .before .before .before .before .before .before .before .before .pre in
+    let t = built-within (a .text .now) (memories (a .relations .now) (a .sets .now)) (a .work .now) (y .0) _ (c .before .before .before .before .before .before .before .before .before .wide .ensures)
+    (y .1) (y .2) _ (c .before .before .before .before .before .before .narrow .ensures) _ _ _ (c .before .before .before .before .before .build .ensures) in (omega arith, t .0, t .1, t .2)
+
+returns : tie.Need-returns
+returns c =
+    let a = c .before .before .before .before .before .before .before .before .before .before .before .before .before .before .before .before .before .before .before .before .args in
+    let y = c .before .before .before .before .before .before .before .before .before .before .before .before .before .before .before .before .before .before .before .before .pre in
+    built-ran (a .text .now) (memories (a .relations .now) (a .sets .now)) (a .work .now) (y .0) _ (c .before .before .before .before .before .before .before .before .before .before .before .before .before .wide .ensures)
+    (y .1) (y .2) _ (c .before .before .before .before .before .before .before .before .before .before .narrow .ensures) _ _ _ (c .before .before .before .before .before .before .before .before .before .build .ensures) _ _ (fitted (c .before .before .before .commit .ensures) (c .if1 .taken))
+
+returns-2 : tie.Need-returns-2
+returns-2 c =
+    let a = c .before .before .before .before .before .before .before .before .before .before .before .before .before .before .before .before .before .before .before .before .args in
+    let y = c .before .before .before .before .before .before .before .before .before .before .before .before .before .before .before .before .before .before .before .before .pre in
+    built-ran (a .text .now) (memories (a .relations .now) (a .sets .now)) (a .work .now) (y .0) _ (c .before .before .before .before .before .before .before .before .before .before .before .before .before .wide .ensures)
+    (y .1) (y .2) _ (c .before .before .before .before .before .before .before .before .before .before .narrow .ensures) _ _ _ (c .before .before .before .before .before .before .before .before .before .build .ensures) _ _ (full (c .before .before .before .commit .ensures) (c .if1 .left))
+
+pub built-spec : {M : Type 1} → statement M
+built-spec =
+    tie.close
+    (tie.spec
+    slice-read-k
+    slice-read-wide
+    (λ c κs. search needs)
+    sub-build
+    part-build-start
+    (λ c. search needs)
+    narrow-requires
+    (λ c κs. search needs)
+    commit-requires
+    (λ c. search needs)
+    (λ c. search needs)
+    returns
+    (λ c. search needs)
+    (λ c. search needs)
+    returns-2)

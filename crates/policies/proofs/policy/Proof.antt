@@ -1,0 +1,37 @@
+-- `policy` comes to the text's outcome for any numbers in the memories, and leaves the working memory zero.
+use mathlib.Core.Path.{sym, ap, _∙_}
+use lib.ListN.{replicate}
+use borrow.Author.Needs.{needs}
+use borrow.Author.Tests.{not-true, not-false}
+use Rattle.store.proofs.Running.{judged-ready}
+use Rattle.policies.proofs.TextOutcomes.{policy-not-store}
+use Rattle.policies.proofs.policy.Statement.{statement}
+use Rattle.policies.proofs.policy.Tie as tie
+
+returns : tie.Need-returns
+returns c =
+    let t = c .before .before .before .before .before .before .before .is-store .ensures in
+    (policy-not-store _ _ (sym (t .says) ∙ not-true _ (c .before .before .before .before .if1 .taken)), c .before .before .clear .ensures ∙ ap (λ n. replicate n 0) (t .wide))
+
+judged-requires : tie.Need-judged-requires
+judged-requires c κs =
+    judged-ready (c .before .before .before .before .before .is-store .ensures) (not-false _ (c .before .before .if1 .left))
+
+returns-2 : tie.Need-returns-2
+returns-2 c =
+    (c .before .before .before .before .before .before .before .before .judged .ensures, c .before .before .clear2 .ensures ∙ ap (λ n. replicate n 0) (c .before .before .before .before .before .before .before .before .judged .kept .1 .1 .0 ∙ c .before .before .before .before .before .before .before .before .before .before .before .before .before .before .is-store .ensures .wide))
+
+pub policy-spec : {M : Type 1} → statement M
+policy-spec =
+    tie.close
+    (tie.spec
+    (λ c κs. search needs)
+    (λ c κs. search needs)
+    (λ c. search needs)
+    (λ c. search needs)
+    returns
+    judged-requires
+    (λ c κs. search needs)
+    (λ c. search needs)
+    (λ c. search needs)
+    returns-2)

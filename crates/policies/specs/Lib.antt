@@ -1,0 +1,5 @@
+pub mod Answers
+pub mod Outcome
+pub mod Lists
+pub mod Items
+pub mod Building

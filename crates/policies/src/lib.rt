@@ -1,0 +1,90 @@
+// The public policy call: a NetKAT text read and built on two lent memories.
+ghost use mathlib.Core.Path.{_≡_};
+ghost use mathlib.Core.Bool.{true};
+ghost use lib.ListN.{length, replicate};
+ghost use Rattle.nodes.specs.Store.{rel};
+ghost use Rattle.judging.specs.Memory.{memories, fields};
+ghost use Rattle.store.specs.Checking.{Accepted};
+ghost use Rattle.store.specs.Outcome.{told};
+ghost use Rattle.texts.specs.Reading.{reading};
+ghost use Rattle.texts.specs.declared.Reading.the-variants.{Policy};
+ghost use Rattle.policies.specs.Outcome.{policy-step, short?};
+
+mod build;
+mod items;
+
+// What is wrong at a place in a text.
+pub enum Fault {
+    NotPolicy,
+    NotPredicate,
+    TooDeep,
+    NoField,
+}
+
+// Why a policy is declined: a fault and its offset in the text, or the store's own refusal.
+pub enum PolicyRefusal {
+    At(Fault, usize),
+    Store(store::Refusal),
+}
+
+// What a policy call answers.
+pub enum PolicyAnswer {
+    Handle(u32),
+    Declined(PolicyRefusal),
+}
+
+// A text within the rules: it is built, and its nodes are kept where they fit.
+fn built(relations: &mut [u32], sets: &[u32], work: &mut [u32], text: &[u8]) -> PolicyAnswer
+    requires { ⌜ Accepted rel (memories (now relations) (now sets)) (now work)
+        × (short? (now text) ≡ true) × (reading (fields (memories (now relations) (now sets))) (now text) ≡ Policy) ⌝ }
+    ensures { λ r. ⌜ told r (memories (now (relations .exit)) (now (sets .entry)))
+        ≡ policy-step (now (text .entry)) (memories (now (relations .entry)) (now (sets .entry))) ⌝ }
+{
+    let k = relations[0];
+    let n = memory::wide(relations[1]);
+    let s = memory::Arena {
+        ok: true,
+        n: n,
+        h: 0,
+    };
+    let r = crate::build::build(text, &mut relations[2..], work, s, memory::narrow(k));
+    judging::commit::commit(relations, 2, 4, n, r);
+    if r.ok {
+        return PolicyAnswer::Handle(r.h);
+    }
+    PolicyAnswer::Declined(PolicyRefusal::Store(store::Refusal::UsedUp))
+}
+
+// Reads a text for a store, and builds it.
+fn judged(relations: &mut [u32], sets: &[u32], work: &mut [u32], text: &[u8]) -> PolicyAnswer
+    requires { ⌜ Accepted rel (memories (now relations) (now sets)) (now work) ⌝ }
+    ensures { λ r. ⌜ told r (memories (now (relations .exit)) (now (sets .entry)))
+        ≡ policy-step (now (text .entry)) (memories (now (relations .entry)) (now (sets .entry))) ⌝ }
+{
+    if text.len() > 4096 {
+        return PolicyAnswer::Declined(PolicyRefusal::Store(store::Refusal::TooLong));
+    }
+    let read = texts::read(text, relations[0]);
+    match read {
+        texts::Reading::Policy => built(relations, sets, work, text),
+        texts::Reading::NotPolicy(i) => PolicyAnswer::Declined(PolicyRefusal::At(Fault::NotPolicy, i)),
+        texts::Reading::TooDeep(i) => PolicyAnswer::Declined(PolicyRefusal::At(Fault::TooDeep, i)),
+        texts::Reading::NoField(i) => PolicyAnswer::Declined(PolicyRefusal::At(Fault::NoField, i)),
+        texts::Reading::NotPredicate(i) => PolicyAnswer::Declined(PolicyRefusal::At(Fault::NotPredicate, i)),
+    }
+}
+
+// A policy on any numbers in both memories, and any bytes as its text.
+pub fn policy(relations: &mut [u32], sets: &[u32], work: &mut [u32], text: &[u8]) -> PolicyAnswer
+    ensures { λ r. ⌜ (told r (memories (now (relations .exit)) (now (sets .entry)))
+        ≡ policy-step (now (text .entry)) (memories (now (relations .entry)) (now (sets .entry))))
+        × (now (work .exit) ≡ replicate (length (now (work .entry))) 0) ⌝ }
+{
+    if !judging::is_store(relations, sets, work, false) {
+        nodes::clear(work);
+        return PolicyAnswer::Declined(PolicyRefusal::Store(store::Refusal::NotStore));
+    }
+    let r = judged(relations, sets, work, text);
+    nodes::clear(work);
+    r
+}

@@ -1,0 +1,135 @@
+-- The reader of policy texts, byte by byte: a state, what a byte does to it, and the run over a text, which stops at the first
+-- byte that cannot stand there (7) or the first `(` or `!` inside 32 others (9); 01, "What each operation declines, in order".
+use Prim.Native.Nat.{ℕ, zero, suc, _+_, _-_, _*_}
+use mathlib.Core.List.{List, [], _∷_}
+use mathlib.Core.Bool.{Bool, true, false, cond, _&&_}
+use lib.Dec.{ltb, leb, eqb}
+use Rattle.nodes.specs.Policies.{Policy}
+
+-- the left operand of a join: none yet, or what was read so far
+pub data Acc : Type 0 where
+  nothing : Acc
+  sofar : Policy → Acc
+
+-- an open parenthesis: the sum and the product that it stands in, and how many `!` stand right before it
+pub data Frame : Type 0 where
+  paren : Acc → Acc → ℕ → Frame
+
+-- inside a test or an assignment: after `x`; after a first digit that is no 0; after N; after `:`; after `=`, of an assignment or not
+pub data Mid : Type 0 where
+  name : Mid
+  digit : ℕ → Mid
+  named : ℕ → Mid
+  colon : ℕ → Mid
+  bit : Bool → ℕ → Mid
+
+-- an atom has to begin, after n `!`; inside a test or an assignment; after a starred item
+pub data State : Type 0 where
+  need : Acc → Acc → ℕ → List Frame → State
+  inside : Mid → Acc → Acc → ℕ → List Frame → State
+  post : Policy → Acc → Acc → List Frame → State
+
+-- what a byte does inside a test or an assignment: it goes on, it ends with the policy, or the byte cannot stand there
+pub data MidStep : Type 0 where
+  more : Mid → MidStep
+  whole : Policy → MidStep
+  not-mid : MidStep
+
+-- what a byte does: the next state, or 7, or 9
+pub data Step : Type 0 where
+  go : State → Step
+  stop : Step
+  over : Step
+
+-- what a text reads as: a policy, or 7 or 9 at an offset
+pub data Out : Type 0 where
+  accept : Policy → Out
+  bad : ℕ → Out
+  deep : ℕ → Out
+
+-- n `!` before an atom
+unfoldable pub negs : ℕ → Policy → Policy
+negs zero p = p
+negs (suc n) p = negs n (Policy.negates p)
+
+unfoldable pub join-seq : Acc → Policy → Policy
+join-seq nothing q = q
+join-seq (sofar p) q = Policy.seq p q
+
+unfoldable pub join-plus : Acc → Policy → Policy
+join-plus nothing q = q
+join-plus (sofar p) q = Policy.plus p q
+
+-- how many `(` and `!` stand around what is in these parentheses
+unfoldable pub nesting : List Frame → ℕ
+nesting [] = 0
+nesting (paren sa pa n ∷ σ) = suc (n + nesting σ)
+
+abbrev pub digit? : ℕ → Bool
+digit? b = leb 48 b && leb b 57
+
+-- an assignment or a test
+unfoldable pub leaf : Bool → ℕ → Bool → Policy
+leaf true n v = Policy.assigns n v
+leaf false n v = Policy.tests n v
+
+-- after N: `=` or `:`
+unfoldable pub after-name : ℕ → ℕ → MidStep
+after-name n b = cond (eqb b 61) (more (bit false n)) (cond (eqb b 58) (more (colon n)) not-mid)
+
+unfoldable pub mid-step : Mid → ℕ → MidStep
+mid-step name b = cond (eqb b 48) (more (named 0)) (cond (digit? b) (more (digit (b - 48))) not-mid)
+mid-step (digit n) b = cond (digit? b) (more (named (n * 10 + (b - 48)))) (after-name n b)
+mid-step (named n) b = after-name n b
+mid-step (colon n) b = cond (eqb b 61) (more (bit true n)) not-mid
+mid-step (bit k n) b = cond (eqb b 48) (whole (leaf k n false)) (cond (eqb b 49) (whole (leaf k n true)) not-mid)
+
+unfoldable pub mid-go : MidStep → Acc → Acc → ℕ → List Frame → Step
+mid-go (more m) sa pa n σ = go (inside m sa pa n σ)
+mid-go (whole p) sa pa n σ = go (post (negs n p) sa pa σ)
+mid-go not-mid sa pa n σ = stop
+
+-- `)`
+unfoldable pub close : Policy → Acc → Acc → List Frame → Step
+close v sa pa [] = stop
+close v sa pa (paren sb pb n ∷ σ) = go (post (negs n (join-plus sa (join-seq pa v))) sb pb σ)
+
+-- what a byte does, where an atom may nest L deep
+unfoldable pub step : ℕ → State → ℕ → Step
+step L (need sa pa n σ) b =
+    cond (eqb b 48) (go (post (negs n Policy.fail) sa pa σ))
+    (cond (eqb b 49) (go (post (negs n Policy.skip) sa pa σ))
+    (cond (eqb b 120) (go (inside name sa pa n σ))
+    (cond (eqb b 33) (cond (ltb (n + nesting σ) L) (go (need sa pa (suc n) σ)) over)
+    (cond (eqb b 40) (cond (ltb (n + nesting σ) L) (go (need nothing nothing 0 (paren sa pa n ∷ σ))) over)
+    stop))))
+step L (inside m sa pa n σ) b = mid-go (mid-step m b) sa pa n σ
+step L (post v sa pa σ) b =
+    cond (eqb b 42) (go (post (Policy.stars v) sa pa σ))
+    (cond (eqb b 59) (go (need sa (sofar (join-seq pa v)) 0 σ))
+    (cond (eqb b 43) (go (need (sofar (join-plus sa (join-seq pa v))) nothing 0 σ))
+    (cond (eqb b 41) (close v sa pa σ)
+    stop)))
+
+-- where the text ends, at the offset
+unfoldable pub final : State → ℕ → Out
+final (need sa pa n σ) at = bad at
+final (inside m sa pa n σ) at = bad at
+final (post v sa pa []) at = accept (join-plus sa (join-seq pa v))
+final (post v sa pa (f ∷ σ)) at = bad at
+
+unfoldable pub onward : Step → (State → Out) → ℕ → Out
+onward (go q) k at = k q
+onward stop k at = bad at
+onward over k at = deep at
+
+-- the run from an offset over the text that is left
+unfoldable pub run : ℕ → State → ℕ → List ℕ → Out
+run L q at [] = final q at
+run L q at (b ∷ s) = onward (step L q b) (λ r. run L r (at + 1) s) at
+
+abbrev pub start : State
+start = need nothing nothing 0 []
+
+unfoldable pub reads : List ℕ → Out
+reads s = run 32 start 0 s
