@@ -52,10 +52,12 @@ module _ (t : List ℕ) (M : Memories) (w : List ℕ) (Y : Accepted rel M w) (r 
   read-refused q f = policy-refused t M (Y .store) q (short-verdict (fields M) t r s e ∙ f)
 
 -- how a run ended
-pub fitted : {m m′ : List ℕ} {start c n : ℕ} {r : Arena} → Committed m m′ start c n r → r .ok ≡ true → Finished m m′ start c n r (store.the-variants.Handle (r .h))
+pub fitted : {m m′ : List ℕ} {start c n : ℕ} {r : Arena} → Committed m m′ start c n r → r .ok ≡ true
+    → Finished m m′ start c n r (store.the-variants.Handle (r .h))
 fitted C t = record { fitted = λ t. (refl, C .fitted t); full = λ f. absurd (false≢true (sym f ∙ t)) }
 
-pub full : {m m′ : List ℕ} {start c n : ℕ} {r : Arena} → Committed m m′ start c n r → r .ok ≡ false → Finished m m′ start c n r (store.the-variants.Declined UsedUp)
+pub full : {m m′ : List ℕ} {start c n : ℕ} {r : Arena} → Committed m m′ start c n r → r .ok ≡ false
+    → Finished m m′ start c n r (store.the-variants.Declined UsedUp)
 full C f = record { fitted = λ t. absurd (false≢true (sym f ∙ t)); full = λ f. (refl, C .full f) }
 
 -- a text within the rules

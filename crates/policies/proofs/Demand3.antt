@@ -35,7 +35,8 @@ built-answer : {X : Type 0} (m n k : ℕ) (t : List ℕ) (r : Keeps k t) (S : No
 unfolding text-concludes
 built-answer m n k t r S x put = let R = run (policy-program k (policy-of r)) S in
     ap (λ v. text-concludes m n v S x put .answer) (kept-builds k t r)
-    ∙ by-test (λ b. pick b (told (Handle (R .value)) (put (R .store))) (told (Declined (Store UsedUp)) x) .answer ≡ pick b (Handle (R .value)) (Declined (Store UsedUp)))
+    ∙ by-test (λ b. pick b (told (Handle (R .value)) (put (R .store))) (told (Declined (Store UsedUp)) x) .answer
+    ≡ pick b (Handle (R .value)) (Declined (Store UsedUp)))
     (fits-places m n (R .store)) (λ _. refl) (λ _. refl)
 
 module _ (k : ℕ) (M₀ : Memories) (z : ℕ) (new : step (new-store k) M₀ .answer ≡ store.Handle z) where
@@ -74,8 +75,9 @@ module _ (k : ℕ) (M₀ : Memories) (z : ℕ) (new : step (new-store k) M₀ .a
     accepted-right t h A = text-right t _ h (A .handle)
 
     relates-end : (t : List ℕ) (h : ℕ) → AcceptedIn k M₀ cs t h → Relates k (text-relates k t) end h
-    relates-end t h A = relates-ext (lasts-there t (A .before) (A .later) (A .is) .grown)
-        (subst (λ j. Relates j (text-relates j t) (decode (policy-step t (there t (A .before) (A .later) (A .is)) .state)) h) (width-there t (A .before) (A .later) (A .is)) (accepted-right t h A .relates))
+    relates-end t h A = let S = decode (policy-step t (there t (A .before) (A .later) (A .is)) .state) in
+        relates-ext (lasts-there t (A .before) (A .later) (A .is) .grown)
+        (subst (λ j. Relates j (text-relates j t) S h) (width-there t (A .before) (A .later) (A .is)) (accepted-right t h A .relates))
 
     keeps-end : (t : List ℕ) (h : ℕ) → AcceptedIn k M₀ cs t h → Keeps k t
     keeps-end t h A = subst (λ j. Keeps j t) (width-there t (A .before) (A .later) (A .is)) (accepted-right t h A .keeps)

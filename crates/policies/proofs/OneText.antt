@@ -32,7 +32,8 @@ tree-relates k t x s p q P Q = (λ r. (x, s, r), λ r. subst (λ y. meaning k y 
 
 -- what the program of a text that keeps the rules leaves
 pub kept-does : {k : ℕ} {t : List ℕ} {S : Nodes} {p : Prog} → WellFormed k S → (K : Kept k t p) → Does k S p (Relates k (meaning k (policy-of (K .keeps))))
-kept-does {k} {S = S} F K = subst (λ p. Does k S p (Relates k (meaning k (policy-of (K .keeps))))) (K .program) (policy-does (policy-of (K .keeps)) (K .keeps .rules .below) F)
+kept-does {k} {S = S} F K =
+    subst (λ p. Does k S p (Relates k (meaning k (policy-of (K .keeps))))) (K .program) (policy-does (policy-of (K .keeps)) (K .keeps .rules .below) F)
 
 -- only a store accepts a text
 accepted-store : (t : List ℕ) (M : Memories) (h : ℕ) → policy-step t M .answer ≡ Handle h → IsStore M
