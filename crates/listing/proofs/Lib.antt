@@ -2,3 +2,6 @@
 mod Splitting
 mod Sizes
 mod Adding
+mod Widths
+mod Shown
+mod Listed

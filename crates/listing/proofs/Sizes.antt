@@ -4,7 +4,7 @@ use mathlib.Core.Bool.{Bool, cond, true, false}
 use mathlib.Core.List.{List}
 use mathlib.Core.Logic.{_↔_}
 use Prim.Native.Nat.{ℕ, zero, suc, _+_, _-_, _*_, _/_, _%_, _^_, _<_, _≤_}
-use native.Mathlib.Nat.{pow-suc, one-le-pow, le-div-iff-mul-le, div-lt-iff-lt-mul}
+use native.Mathlib.Nat.{pow-suc, one-le-pow, pow-le-pow-right, le-div-iff-mul-le, div-lt-iff-lt-mul, le-of-suc-le-suc, lt-of-not-le}
 use native.Mathlib.Omega.{arith}
 use lib.Dec.{ltb}
 use lib.ListN.{length, take, length-append}
@@ -13,30 +13,25 @@ use Rattle.io.specs.Digits.{digits, Fewest}
 use Rattle.nodes.proofs.Bools.{by-test}
 use Rattle.listing.specs.Decimal.{size, decimal}
 
-length-digits : (k n : ℕ) → length (digits 10 k n) ≡ k
-length-digits zero n = refl
-length-digits (suc k) n = length-append (digits 10 k (n / 10)) _ ∙ (ap (λ (j : ℕ). j + 1) (length-digits k (n / 10)) ∙ omega arith)
+-- a number of q + 2 digits
+low : (n q : ℕ) → Fewest 10 1 n (suc (suc q)) → 10 ^ q * 10 ≤ n
+low n q F =
+    let one-less : suc (suc q) - 1 ≡ suc q = omega arith in
+    subst (λ (p : ℕ). p ≤ n) (pow-suc 10 q) (subst (λ (j : ℕ). 10 ^ j ≤ n) one-less (F .2 (omega arith)))
 
-size-most : (f n : ℕ) → size f n ≤ suc f
-unfolding size
-size-most zero n = omega arith
-size-most (suc f) n =
-    by-test (λ b. cond b 1 (suc (size f (n / 10))) ≤ suc (suc f)) (ltb n 10) (λ e. omega arith) (λ e. let most = size-most f (n / 10) in omega arith)
-
--- one digit less of n / 10
+-- its tenth has one digit less
 fewer : (n q : ℕ) → Fewest 10 1 n (suc (suc q)) → Fewest 10 1 (n / 10) (suc q)
 fewer n q F =
     let top : n < 10 ^ suc q * 10 = subst (λ (p : ℕ). n < p) (pow-suc 10 (suc q)) (F .1) in
-    let low : 10 ^ q * 10 ≤ n = subst (λ (p : ℕ). p ≤ n) (pow-suc 10 q) (F .2 (omega arith)) in
-    (omega arith, div-lt-iff-lt-mul (omega arith) .1 top, λ more. le-div-iff-mul-le (omega arith) .1 low)
+    let back : q ≡ suc q - 1 = omega arith in
+    (omega arith, div-lt-iff-lt-mul {k = 10} {x = n} {y = 10 ^ suc q} (omega arith) .1 top, λ more. subst (λ (j : ℕ). 10 ^ j ≤ n / 10) back (le-div-iff-mul-le {k = 10} {x = 10 ^ q} {y = n} (omega arith) .1 (low n q F)))
 
 -- a number below 10 has one digit
 one : (n r : ℕ) → n < 10 → Fewest 10 1 n r → 1 ≡ r
 one n zero small F = absurd (let z = F .0 in omega arith)
 one n (suc zero) small F = refl
 one n (suc (suc q)) small F =
-    let low : 10 ^ q * 10 ≤ n = subst (λ (p : ℕ). p ≤ n) (pow-suc 10 q) (F .2 (omega arith)) in
-    absurd (omega (arith, one-le-pow q 10 (omega arith)))
+    absurd (omega (arith, one-le-pow q 10 (omega arith), low n q F))
 
 -- a number from 10 on has one digit more than its tenth
 several : (S : ℕ → ℕ) (f n r : ℕ) → ((m q : ℕ) → Fewest 10 1 m q → q ≤ suc f → S m ≡ q) → 10 ≤ n → Fewest 10 1 n r → r ≤ suc (suc f) → suc (S (n / 10)) ≡ r
@@ -52,10 +47,13 @@ size-is (suc f) n r F most =
     (λ e. one n r (ltb-true n 10 e) F)
     (λ e. several (size f) f n r (size-is f) (ltb-false n 10 e) F most)
 
+-- twenty digits hold a number of 64 bits
+pub few-digits : (n k : ℕ) → n < 10 ^ 20 → Fewest 10 1 n k → k ≤ 20
+few-digits n k small F = le-of-suc-le-suc (lt-of-not-le (λ over.
+    let p : 10 ^ (k - 1) ≤ n = F .2 (omega arith) in
+    let q : 10 ^ 20 ≤ 10 ^ (k - 1) = pow-le-pow-right {n = 10} (omega arith) {i = 20} {j = k - 1} (omega arith) in
+    omega arith))
+
 pub decimal-is : (n r : ℕ) → Fewest 10 1 n r → r ≤ 20 → digits 10 r n ≡ decimal n
 unfolding decimal
 decimal-is n r F most = ap (λ (k : ℕ). digits 10 k n) (sym (size-is 19 n r F most))
-
-pub decimal-short : (n : ℕ) → length (decimal n) ≤ 20
-unfolding decimal
-decimal-short n = subst (λ (k : ℕ). k ≤ 20) (sym (length-digits (size 19 n) n)) (size-most 19 n)

@@ -67,15 +67,22 @@ policy-lines i (t ∷ ts) M = answer-line i (policy-step t M .answer) ++ policy-
 unfoldable pub zeroed : ℕ → ℕ → Memories
 zeroed r s = memories (replicate r 0) (replicate s 0)
 
+abbrev pub bad-k : List ℕ
+bad-k = 98 ∷ 97 ∷ 100 ∷ 32 ∷ 107 ∷ 10 ∷ []
+
+-- `bad k` alone, or all lines
 unfoldable pub listed : Width → List (List ℕ) → List ℕ
 listed (Is k) ts = first-line k ++ policy-lines 1 ts (step (new-store k) (zeroed (2 + 4 * 2048) (1 + 2 * 2048)) .state)
-listed Bad ts = 98 ∷ 97 ∷ 100 ∷ 32 ∷ 107 ∷ 10 ∷ []
+listed Bad ts = bad-k
 
 -- a policy a line after the first; where there is none, `bad k`
 unfoldable pub of-lines : List (List ℕ) → List ℕ
 of-lines [] = listed Bad []
 of-lines (l ∷ ts) = listed (width-of l) ts
 
+abbrev pub too-long : List ℕ
+too-long = 116 ∷ 111 ∷ 111 ∷ 32 ∷ 108 ∷ 111 ∷ 110 ∷ 103 ∷ 10 ∷ []
+
 -- "at most 16,384 bytes (else it prints only `too long`)"
 unfoldable pub listing : List ℕ → List ℕ
-listing t = pick (leb (length t) 16384) (of-lines (lines t)) (116 ∷ 111 ∷ 111 ∷ 32 ∷ 108 ∷ 111 ∷ 110 ∷ 103 ∷ 10 ∷ [])
+listing t = pick (leb (length t) 16384) (of-lines (lines t)) too-long

@@ -1,6 +1,7 @@
 // What the lister writes for the bytes that it reads: a proved function from input to output.
 ghost use mathlib.Core.Path.{_≡_};
 ghost use lib.ListN.{take};
+ghost use Rattle.io.specs.Counts.{Counts};
 ghost use Rattle.listing.specs.Listing.{listing};
 use crate::fields::Width;
 
@@ -16,6 +17,7 @@ pub fn list(
     work: &mut [u32],
     out: &mut [u8; 1048704],
 ) -> usize
+    ensures { λ r. ⌜ Counts r (now (out .exit)) ⌝ }
     ensures { λ r. ⌜ take r (now (out .exit)) ≡ listing (now (input .entry)) ⌝ }
 {
     if input.len() > 16384 {
@@ -27,4 +29,16 @@ pub fn list(
         Width::Bad => crate::writing::put(out, 0, b"bad k\n"),
         Width::Is(k) => crate::lines::write(input, end + 1, k, relations, sets, work, out),
     }
+}
+
+// Reads all of a file, and writes its listing to standard output.
+pub fn run(file: i32) {
+    let mut input = [0u8; 16385];
+    let n = io::read_full(file, &mut input);
+    let mut relations = [0u32; 8194];
+    let mut sets = [0u32; 4097];
+    let mut work = [0u32; 65536];
+    let mut out = [0u8; 1048704];
+    let r = list(&input[..n], &mut relations, &mut sets, &mut work, &mut out);
+    io::write_all(libc::STDOUT_FILENO, &out[..r]);
 }

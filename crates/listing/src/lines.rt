@@ -76,6 +76,7 @@ pub(crate) fn write(
 ) -> usize
     requires { ⌜ (0 < start) × (128 + 64 * (length (now input) - start) ≤ length (now out))
         × (length (now relations) ≡ 2 + 4 * 2048) × (length (now sets) ≡ 1 + 2 * 2048) ⌝ }
+    ensures { λ r. ⌜ r ≤ length (now (out .entry)) ⌝ }
     ensures { λ r. ⌜ take r (now (out .exit)) ≡ listed (Is k) (lines (drop start (now (input .entry)))) ⌝ }
 {
     begin(relations, sets, work, k);
