@@ -41,10 +41,10 @@ adds-as {at} {r} {s} {t} {o} {o′} e a = record {
 pub few-as : {m n at r : ℕ} {s t o o′ : List ℕ} → s ≡ t → m ≤ n → AddsFew m at s o o′ r → AddsFew n at t o o′ r
 few-as e more a = record { adds = adds-as e (a .adds); few = let f = a .few in omega arith }
 
--- bytes s, and the digits of n that stand in t
-pub number-adds : {at from r : ℕ} {s o o′ o″ : List ℕ} (n k : ℕ) (t : List ℕ) → n < 10 ^ 20 → Adds at s o o′ from → Fewest 10 1 n k
-    → k ≡ length (take k t) → take k t ≡ digits 10 k n → Adds from (take k t) o′ o″ r → AddsFew (length s + 20) at (s ++ decimal n) o o″ r
-number-adds {at} {from} {r} {s} n k t small a F long is b =
+-- bytes s, and the digits of n
+pub number-adds : {at from r : ℕ} {s u o o′ o″ : List ℕ} (n k : ℕ) → n < 10 ^ 20 → Adds at s o o′ from → Fewest 10 1 n k
+    → k ≡ length u → u ≡ digits 10 k n → Adds from u o′ o″ r → AddsFew (length s + 20) at (s ++ decimal n) o o″ r
+number-adds {at} {from} {r} {s} n k small a F long is b =
     let few = few-digits n k small F in record {
       adds = adds-then a (adds-as (is ∙ decimal-is n k F few) b);
       few = let p = a .end in let q = b .end in omega arith;

@@ -60,7 +60,8 @@ whole k n r s ts M M′ a b e o o′ o″ o‴ er es begun first all last =
     ∙ λ i. first-line k ++ policy-lines 1 ts (step (new-store k) (zeroed (er i) (es i)) .state))))
 
 -- the first line of the input, and the others
-pub first-read : (x : List ℕ) (to : ℕ) → to ≡ 0 + indexOf 10 (slice 0 (length x) x) → of-lines (lines x) ≡ listed (width-of (take to x)) (lines (drop (to + 1) x))
+pub first-read : (x : List ℕ) (to : ℕ) → to ≡ 0 + indexOf 10 (slice 0 (length x) x)
+    → of-lines (lines x) ≡ listed (width-of (take to x)) (lines (drop (to + 1) x))
 unfolding of-lines width-of lines listed
 first-read [] to e = ap (λ (l : List ℕ). listed (width-of l) (lines (drop (to + 1) []))) (sym (take-nil to))
 first-read (b ∷ t) to e =

@@ -24,7 +24,8 @@ fewer : (n q : ℕ) → Fewest 10 1 n (suc (suc q)) → Fewest 10 1 (n / 10) (su
 fewer n q F =
     let top : n < 10 ^ suc q * 10 = subst (λ (p : ℕ). n < p) (pow-suc 10 (suc q)) (F .1) in
     let back : q ≡ suc q - 1 = omega arith in
-    (omega arith, div-lt-iff-lt-mul {k = 10} {x = n} {y = 10 ^ suc q} (omega arith) .1 top, λ more. subst (λ (j : ℕ). 10 ^ j ≤ n / 10) back (le-div-iff-mul-le {k = 10} {x = 10 ^ q} {y = n} (omega arith) .1 (low n q F)))
+    let tenth : 10 ^ q ≤ n / 10 = le-div-iff-mul-le {k = 10} {x = 10 ^ q} {y = n} (omega arith) .1 (low n q F) in
+    (omega arith, div-lt-iff-lt-mul {k = 10} {x = n} {y = 10 ^ suc q} (omega arith) .1 top, λ more. subst (λ (j : ℕ). 10 ^ j ≤ n / 10) back tenth)
 
 -- a number below 10 has one digit
 one : (n r : ℕ) → n < 10 → Fewest 10 1 n r → 1 ≡ r

@@ -1,18 +1,11 @@
 // The first line: the number k of fields.
 ghost use mathlib.Core.Path.{_≡_};
-ghost use Rattle.texts.specs.Machine.{digit?};
 ghost use Rattle.listing.specs.Listing.{at-most-32, one-digit, two-digits, width-of};
 
 // k, or no number from 0 to 32.
 pub(crate) enum Width {
     Is(u32),
     Bad,
-}
-
-fn is_digit(b: u8) -> bool
-    ensures { λ r. ⌜ r ≡ digit? b ⌝ }
-{
-    48 <= b && b <= 57
 }
 
 fn at_most_32(n: u32) -> Width
@@ -27,7 +20,7 @@ fn at_most_32(n: u32) -> Width
 fn one_digit(a: u8) -> Width
     ensures { λ r. ⌜ r ≡ one-digit a ⌝ }
 {
-    if !is_digit(a) {
+    if !texts::is_digit(a) {
         return Width::Bad;
     }
     at_most_32((a - 48) as u32)
@@ -39,10 +32,10 @@ fn two_digits(a: u8, b: u8) -> Width
     if a == 48 {
         return Width::Bad;
     }
-    if !is_digit(a) {
+    if !texts::is_digit(a) {
         return Width::Bad;
     }
-    if !is_digit(b) {
+    if !texts::is_digit(b) {
         return Width::Bad;
     }
     at_most_32(10 * (a - 48) as u32 + (b - 48) as u32)

@@ -1,6 +1,7 @@
 -- `list` by the length of the input and its first line.
-use mathlib.Core.Path.{refl, sym}
+use mathlib.Core.Path.{sym}
 use native.Mathlib.Omega.{arith}
+use lib.Seq.{length-take-le}
 use Rattle.listing.proofs.Listed.{listing-of, listing-long, counted}
 use Rattle.listing.specs.Listing.{listed}
 use borrow.Author.Needs.{needs}
@@ -11,18 +12,31 @@ returns : tie.Need-returns
 returns c =
     counted _ _ _ _ (omega (arith, c .put .ensures .end)) (c .put .ensures .text) (listing-long _ (omega arith))
 
+slice-aggregate-read : tie.Need-slice-aggregate-read
+slice-aggregate-read c =
+    sym (length-take-le _ _ (c .before .find .ensures .1))
+
 write-requires : tie.Need-write-requires
 write-requires c κs =
-    (omega arith, omega (arith, c .before .before .before .before .before .before .before .before .before .find .ensures .1), search needs, search needs)
+    let c9 = c .before .before .before .before .before .before .before .before .before in
+    (omega arith, omega (arith, c9 .find .ensures .1), search needs, search needs)
 
 returns-2 : tie.Need-returns-2
 unfolding listed
 returns-2 c =
-    counted _ _ _ _ (omega (arith, c .put2 .ensures .end)) (c .put2 .ensures .text) (listing-of _ _ _ _ (omega arith) (c .before .before .before .before .before .before .before .find .ensures .0) (c .before .before .before .before .before .read .ensures) (c .before .before .before .enum-told .given .1))
+    let c3 = c .before .before .before in
+    let c5 = c3 .before .before in
+    let c7 = c5 .before .before in
+    counted _ _ _ _ (omega (arith, c .put2 .ensures .end)) (c .put2 .ensures .text)
+    (listing-of _ _ _ _ (omega arith) (c7 .find .ensures .0) (c5 .read .ensures) (c3 .enum-told .given .1))
 
 returns-3 : tie.Need-returns-3
 returns-3 c =
-    counted _ _ _ _ (omega (arith, c .before .before .write .ensures .0)) (c .before .before .write .ensures .1) (listing-of _ _ _ _ (omega arith) (c .before .before .before .before .before .before .before .before .before .before .before .before .find .ensures .0) (c .before .before .before .before .before .before .before .before .before .before .read .ensures) (c .before .before .before .before .before .before .before .before .width .given .1))
+    let c8 = c .before .before .before .before .before .before .before .before in
+    let c10 = c8 .before .before in
+    let c12 = c10 .before .before in
+    counted _ _ _ _ (omega (arith, c .before .before .write .ensures .0, c .before .before .write .kept .1 .1 .1 .1 .1 .1 .0))
+    (c .before .before .write .ensures .1) (listing-of _ _ _ _ (omega arith) (c12 .find .ensures .0) (c10 .read .ensures) (c8 .width .given .1))
 
 pub list-spec : {M : Type 1} → statement M
 list-spec =
@@ -32,7 +46,7 @@ list-spec =
     (λ c κs. search needs)
     returns
     (λ c κs. search needs)
-    (λ c. search needs)
+    slice-aggregate-read
     (λ c κs. search needs)
     (λ c. search needs)
     (λ c. search needs)

@@ -29,8 +29,12 @@ sub-at-most-32-2 c =
 
 returns-4 : tie.Need-returns-4
 returns-4 c =
+    let c3 = c .before .before .before in
+    let c4 = c3 .before in
+    let c5 = c4 .before in
     c .at-most-32 .ensures
-    ∙ both-digits _ _ _ _ (ne-eqb _ _ (c .before .before .before .before .before .if1 .left)) (c .before .before .before .before .is-digit .ensures) (not-false _ (c .before .before .before .if2 .left)) (c .before .before .is-digit2 .ensures) (not-false _ (c .before .if3 .left))
+    ∙ both-digits _ _ _ _ (ne-eqb _ _ (c5 .if1 .left)) (c4 .is-digit .ensures) (not-false _ (c3 .if2 .left)) (c .before .before .is-digit2 .ensures)
+    (not-false _ (c .before .if3 .left))
 
 pub two-digits-spec : {M : Type 1} → statement M
 two-digits-spec =

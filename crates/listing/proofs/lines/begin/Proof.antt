@@ -6,7 +6,11 @@ use Rattle.listing.proofs.lines.begin.Tie as tie
 
 returns : tie.Need-returns
 returns c =
-    let a = c .before .before .before .before .before .before .before .before .before .before .before .before .before .before .before .before .before .before .before .before .before .args in begun _ _ _ _ (a .relations .now) (a .sets .now) _ _ (c .before .before .before .before .before .before .before .before .before .before .before .before .before .before .before .before .clear .ensures) (c .before .before .before .before .before .before .before .before .before .before .before .before .clear2 .ensures) (c .before .before .before .before .before .before .new .ensures .0)
+    let c6 = c .before .before .before .before .before .before in
+    let c12 = c6 .before .before .before .before .before .before in
+    let c16 = c12 .before .before .before .before in
+    let c21 = c16 .before .before .before .before .before in
+    let a = c21 .args in begun _ _ _ _ (a .relations .now) (a .sets .now) _ _ (c16 .clear .ensures) (c12 .clear2 .ensures) (c6 .new .ensures .0)
 
 pub begin-spec : {M : Type 1} → statement M
 begin-spec =

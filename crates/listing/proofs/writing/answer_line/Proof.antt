@@ -9,9 +9,12 @@ use Rattle.listing.proofs.writing.answer_line.Tie as tie
 returns : tie.Need-returns
 unfolding answer-line
 returns c =
-    let a = c .before .before .before .before .before .before .before .before .before .before .before .put-number .ensures in
-    let b = c .before .before .before .before .before .before .before .put-answer .ensures in
-    let e = c .before .before .put .ensures in record { adds = adds-then (adds-then (a .adds) (b .adds)) e; few = omega (arith, e .end, b .few, a .few) }
+    let c7 = c .before .before .before .before .before .before .before in
+    let c11 = c7 .before .before .before .before in
+    let a = c11 .put-number .ensures in
+    let b = c7 .put-answer .ensures in
+    let e = c .before .before .put .ensures in record
+    { adds = adds-then (adds-then (a .adds) (b .adds)) e; few = omega (arith, e .end, b .few, a .few) }
 
 pub answer-line-spec : {M : Type 1} → statement M
 answer-line-spec =

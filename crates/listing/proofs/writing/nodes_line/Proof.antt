@@ -9,9 +9,12 @@ use Rattle.listing.proofs.writing.nodes_line.Tie as tie
 returns : tie.Need-returns
 unfolding nodes-line
 returns c =
-    let a = c .before .before .before .before .before .before .before .before .before .before .before .before .put-number .ensures in
-    let b = c .before .before .before .before .before .before .before .put-number2 .ensures in
-    let e = c .before .before .put .ensures in record { adds = adds-then (adds-then (a .adds) (b .adds)) e; few = omega (arith, e .end, b .few, a .few) }
+    let c7 = c .before .before .before .before .before .before .before in
+    let c12 = c7 .before .before .before .before .before in
+    let a = c12 .put-number .ensures in
+    let b = c7 .put-number2 .ensures in
+    let e = c .before .before .put .ensures in record
+    { adds = adds-then (adds-then (a .adds) (b .adds)) e; few = omega (arith, e .end, b .few, a .few) }
 
 pub nodes-line-spec : {M : Type 1} → statement M
 nodes-line-spec =

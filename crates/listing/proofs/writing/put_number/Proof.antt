@@ -8,12 +8,18 @@ use Rattle.listing.proofs.writing.put_number.Tie as tie
 
 put-requires-2 : tie.Need-put-requires-2
 put-requires-2 c κs =
+    let c6 = c .before .before .before .before .before .before in
+    let c10 = c6 .before .before .before .before in
     let d = c .before .before .decimal .ensures in
-    let few = few-digits _ _ (omega arith) (d .1) in omega (arith, d .0 .1, c .before .before .before .before .before .before .put .ensures .end)
+    let few = few-digits (c10 .args .n) (c .before .before .decimal .result) (omega arith) (d .1 .0) in omega (arith, d .0 .1, c6 .put .ensures .end)
 
 returns : tie.Need-returns
 returns c =
-    let d = c .before .before .before .before .before .decimal .ensures in number-adds _ _ _ (omega arith) (c .before .before .before .before .before .before .before .before .before .put .ensures) (d .1) (d .0 .1) (d .2) (c .before .before .put2 .ensures)
+    let c5 = c .before .before .before .before .before in
+    let c9 = c5 .before .before .before .before in
+    let c13 = c9 .before .before .before .before in
+    let d = c5 .decimal .ensures in number-adds (c13 .args .n) (c5 .decimal .result) (omega arith) (c9 .put .ensures) (d .1 .0) (d .0 .1) (d .1 .1)
+    (c .before .before .put2 .ensures)
 
 pub put-number-spec : {M : Type 1} → statement M
 put-number-spec =
