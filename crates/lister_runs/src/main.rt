@@ -15,13 +15,18 @@ fn run(name: &[u8]) {
     libc::close(file);
 }
 
+// The file that argument i names.
+fn run_argument(i: usize) {
+    let mut name = io::buffer();
+    let n = os::arg(i, &mut name);
+    run(&name[..n]);
+}
+
 fn main() {
     let count = os::arg_count();
     let mut i = 1;
     while i < count {
-        let mut name = io::buffer();
-        let n = os::arg(i, &mut name);
-        run(&name[..n]);
+        run_argument(i);
         i += 1;
     }
 }

@@ -13,8 +13,8 @@ returns c =
     let c12 = c10 .before .before in
     let a = c7 .put-number .ensures in
     let b = c .before .before .put-number2 .ensures in record {
-    adds = adds-as (at-shown (c12 .r .given .1) (c10 .fault-number .ensures)) (adds-then (a .adds) (b .adds));
-    few = omega (arith, b .few, a .few);
+      adds = adds-as (at-shown (c12 .r .given .1) (c10 .fault-number .ensures)) (adds-then (a .adds) (b .adds));
+      few = omega (arith, b .few, a .few);
     }
 
 returns-2 : tie.Need-returns-2
