@@ -1,0 +1,32 @@
+// The lister on stored inputs: each file that an argument names, with its name before its listing.
+use libc::STDOUT_FILENO;
+
+// The listing of one file.
+fn run(name: &[u8]) {
+    io::write_all(STDOUT_FILENO, b"-- ");
+    io::write_all(STDOUT_FILENO, name);
+    io::write_all(STDOUT_FILENO, b"\n");
+    let file = os::open_read(name);
+    if file < 0 {
+        os::fail(name);
+        return;
+    }
+    listing::run(file);
+    libc::close(file);
+}
+
+// The file that argument i names.
+fn run_argument(i: usize) {
+    let mut name = io::buffer();
+    let n = os::arg(i, &mut name);
+    run(&name[..n]);
+}
+
+fn main() {
+    let count = os::arg_count();
+    let mut i = 1;
+    while i < count {
+        run_argument(i);
+        i += 1;
+    }
+}
