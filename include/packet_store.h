@@ -218,6 +218,51 @@ uint64_t packet_store_relation_is_zero(const uint32_t *relations, size_t relatio
 uint64_t packet_store_relation_relates(const uint32_t *relations, size_t relations_len, const uint32_t *sets, size_t sets_len,
                                        uint32_t *work, size_t work_len, uint32_t a, uint32_t input, uint32_t output);
 
+/* RELATIONS AND SETS: CALLS THAT MAY ADD SET NODES. Each returns the handle of a set; a is a relation, p a set. */
+
+/* The packets that a relates some packet to: its range. Refuses: 1; 2 if a is not held; 6. */
+uint64_t packet_store_relation_fwd(const uint32_t *relations, size_t relations_len, uint32_t *sets, size_t sets_len,
+                                   uint32_t *work, size_t work_len, uint32_t a);
+
+/* The packets that a relates to some packet: its domain. Refuses as packet_store_relation_fwd. */
+uint64_t packet_store_relation_bwd(const uint32_t *relations, size_t relations_len, uint32_t *sets, size_t sets_len,
+                                   uint32_t *work, size_t work_len, uint32_t a);
+
+/* The packets that a relates some packet of p to. Refuses: 1; 2 if p or a is not held; 3 if their levels differ; 6. */
+uint64_t packet_store_relation_push(const uint32_t *relations, size_t relations_len, uint32_t *sets, size_t sets_len,
+                                    uint32_t *work, size_t work_len, uint32_t p, uint32_t a);
+
+/* The packets that a relates to some packet of p. Refuses as packet_store_relation_push. */
+uint64_t packet_store_relation_pull(const uint32_t *relations, size_t relations_len, uint32_t *sets, size_t sets_len,
+                                    uint32_t *work, size_t work_len, uint32_t a, uint32_t p);
+
+/* RELATIONS AND SETS: CALLS THAT MAY ADD RELATION NODES. Each returns the handle of a relation; p is a set. */
+
+/* Each packet of p related to itself. Refuses: 1; 2 if p is not held; 6. */
+uint64_t packet_store_relation_diagonal(uint32_t *relations, size_t relations_len, const uint32_t *sets, size_t sets_len,
+                                        uint32_t *work, size_t work_len, uint32_t p);
+
+/* Every packet of p's level related to each packet of p. Refuses as packet_store_relation_diagonal. */
+uint64_t packet_store_relation_ifwd(uint32_t *relations, size_t relations_len, const uint32_t *sets, size_t sets_len,
+                                    uint32_t *work, size_t work_len, uint32_t p);
+
+/*
+ * Each packet of p related to every packet of p's level. Refuses as packet_store_relation_diagonal.
+ * packet_store_relation_bwd of the answer, where it is accepted, is p again.
+ */
+uint64_t packet_store_relation_ibwd(uint32_t *relations, size_t relations_len, const uint32_t *sets, size_t sets_len,
+                                    uint32_t *work, size_t work_len, uint32_t p);
+
+/* RELATIONS AND SETS: CALLS THAT ADD NOTHING. They never refuse with 6; a is a relation, p and q are sets. */
+
+/* 1 if a relates some packet of p to any, else 0. Refuses: 1; 2 if p or a is not held; 3 if their levels differ. */
+uint64_t packet_store_relation_has_image(const uint32_t *relations, size_t relations_len, const uint32_t *sets, size_t sets_len,
+                                         uint32_t *work, size_t work_len, uint32_t p, uint32_t a);
+
+/* 1 if a relates some packet of p to some packet of q, else 0. Refuses: 1; 2 if p, a or q is not held; 3 if their levels differ. */
+uint64_t packet_store_relation_has_path(const uint32_t *relations, size_t relations_len, const uint32_t *sets, size_t sets_len,
+                                        uint32_t *work, size_t work_len, uint32_t p, uint32_t a, uint32_t q);
+
 #ifdef __cplusplus
 }
 #endif

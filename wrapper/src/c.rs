@@ -54,4 +54,13 @@ declare! {
     Reads Reads packet_store_relation_get(a: u32, children: *mut u32);
     Reads Reads packet_store_relation_is_zero(a: u32);
     Reads Reads packet_store_relation_relates(a: u32, input: u32, output: u32);
+    Reads Writes packet_store_relation_fwd(a: u32);
+    Reads Writes packet_store_relation_bwd(a: u32);
+    Reads Writes packet_store_relation_push(p: u32, a: u32);
+    Reads Writes packet_store_relation_pull(a: u32, p: u32);
+    Writes Reads packet_store_relation_diagonal(p: u32);
+    Writes Reads packet_store_relation_ifwd(p: u32);
+    Writes Reads packet_store_relation_ibwd(p: u32);
+    Reads Reads packet_store_relation_has_image(p: u32, a: u32);
+    Reads Reads packet_store_relation_has_path(p: u32, a: u32, q: u32);
 }

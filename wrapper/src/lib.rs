@@ -21,7 +21,10 @@
 
 mod c;
 mod creation;
+mod filter_calls;
+mod image_calls;
 mod lend;
+mod path_reads;
 mod refusal;
 mod relation_calls;
 mod relation_reads;
@@ -29,6 +32,9 @@ mod set_calls;
 mod set_reads;
 
 pub use creation::new;
+pub use filter_calls::*;
+pub use image_calls::*;
+pub use path_reads::*;
 pub use refusal::Refusal;
 pub use relation_calls::*;
 pub use relation_reads::*;

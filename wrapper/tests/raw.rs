@@ -39,19 +39,21 @@ type Get = unsafe extern "C" fn(
     *mut u32,
 ) -> u64;
 
-/// The answer and the numbers lent for the children, which begin as these.
+/// The answer and the numbers lent for the children, which begin as these; guard words beside them stay.
 fn ask<const N: usize>(
     get: Get,
     relations: &[u32],
     sets: &[u32],
     a: u32,
-    mut children: [u32; N],
+    children: [u32; N],
 ) -> (u64, [u32; N]) {
-    let (r, s) = (relations.as_ptr(), sets.as_ptr());
+    let guard = [0xfeed; 4];
+    let mut lent = [&guard[..], &children, &guard].concat();
+    let (r, s, c) = (relations.as_ptr(), sets.as_ptr(), lent[4..].as_mut_ptr());
     // SAFETY: the pointers are those of slices, work has no numbers, and N is as many as the function writes.
-    let answer =
-        unsafe { get(r, relations.len(), s, sets.len(), null_mut(), 0, a, children.as_mut_ptr()) };
-    (answer, children)
+    let answer = unsafe { get(r, relations.len(), s, sets.len(), null_mut(), 0, a, c) };
+    assert_eq!((&lent[..4], &lent[4 + N..]), (&guard[..], &guard[..]));
+    (answer, lent[4..4 + N].try_into().unwrap())
 }
 
 #[test]

@@ -1,45 +1,10 @@
-//! Worked handles of document 01, each refusal in its order, and memory that is exactly full.
+//! Each refusal of the calls on relations in its order, and memory that is exactly full.
 
 mod bench;
 
 use bench::{Bench, DAMAGES};
 use packet_store::*;
 use Refusal::{LevelsDiffer, NoChildren, NotHeld, NotStore, OutOfRange, UsedUp};
-
-#[test]
-fn document_01s_handles_at_one_field() {
-    // P1 to P11.
-    let mut bench = Bench::new(1, 64, 64);
-    assert_eq!(bench.add_relation(relation_zero), Ok(2));
-    assert_eq!(bench.add_relation(relation_one), Ok(3));
-    assert_eq!(bench.add_relation(relation_top), Ok(4));
-    assert_eq!(bench.add_relation(|r, s, w| relation_test(r, s, w, 0, 1)), Ok(5));
-    assert_eq!(bench.add_relation(|r, s, w| relation_test(r, s, w, 0, 0)), Ok(6));
-    assert_eq!(bench.add_relation(|r, s, w| relation_assign(r, s, w, 0, 1)), Ok(7));
-    assert_eq!(bench.add_relation(|r, s, w| relation_assign(r, s, w, 0, 0)), Ok(8));
-    assert_eq!(bench.add_relation(|r, s, w| relation_union(r, s, w, 5, 6)), Ok(3));
-    assert_eq!(bench.add_relation(|r, s, w| relation_sequence(r, s, w, 5, 8)), Ok(9));
-    assert_eq!(bench.add_relation(|r, s, w| relation_flip(r, s, w, 9)), Ok(10));
-    assert_eq!(bench.add_relation(|r, s, w| relation_star(r, s, w, 9)), Ok(11));
-    assert_eq!(bench.read(|r, s, w| relation_get(r, s, w, 11)), Ok([1, 0, 1, 1]));
-    assert_eq!(bench.add_relation(|r, s, w| relation_complement(r, s, w, 3)), Ok(12));
-    assert_eq!(bench.add_relation(|r, s, w| relation_star(r, s, w, 12)), Ok(4));
-    // Others that need no more nodes.
-    assert_eq!(bench.add_relation(|r, s, w| relation_mk(r, s, w, 1, 0, 1, 1)), Ok(11));
-    assert_eq!(bench.add_relation(|r, s, w| relation_intersect(r, s, w, 3, 7)), Ok(5));
-    assert_eq!(bench.add_relation(|r, s, w| relation_xor(r, s, w, 5, 6)), Ok(3));
-    assert_eq!(bench.add_relation(|r, s, w| relation_difference(r, s, w, 3, 5)), Ok(6));
-    assert_eq!(bench.add_relation(|r, s, w| relation_naive_forward(r, s, w, 5)), Ok(7));
-    assert_eq!(bench.add_relation(|r, s, w| relation_naive_forward(r, s, w, 6)), Ok(8));
-    assert_eq!(bench.add_relation(|r, s, w| relation_star(r, s, w, 2)), Ok(3));
-    assert_eq!(bench.read(|r, s, w| relation_is_zero(r, s, w, 2)), Ok(true));
-    assert_eq!(bench.read(|r, s, w| relation_is_zero(r, s, w, 9)), Ok(false));
-    assert_eq!(bench.read(|r, s, w| relation_relates(r, s, w, 9, 1, 0)), Ok(true));
-    assert_eq!(bench.read(|r, s, w| relation_relates(r, s, w, 9, 0, 1)), Ok(false));
-    assert_eq!(bench.relations[1], 11);
-    // The sets stay those of `new`.
-    assert_eq!(bench.sets[..3], [1, 0, 0]);
-}
 
 #[test]
 fn refusals_come_in_order() {

@@ -1,36 +1,10 @@
-//! Worked handles of document 01, each refusal in its order, and memory that is exactly full.
+//! Handles of sets at one field, each refusal of the calls on sets in its order, and memory that is exactly full.
 
 mod bench;
 
 use bench::{Bench, DAMAGES};
 use packet_store::*;
 use Refusal::{LevelsDiffer, NoChildren, NotHeld, NotStore, OutOfRange, UsedUp};
-
-#[test]
-fn new_makes_the_nodes_of_document_01() {
-    let mut bench = Bench::raw(4, 2);
-    assert_eq!(bench.open(1), Ok(4));
-    let nodes = [1, 3, 0, 0, 0, 0, 1, 0, 0, 1, 1, 1, 1, 1, 0, 0, 0, 0];
-    assert_eq!(bench.relations, nodes);
-    assert_eq!(bench.sets, [1, 0, 0, 0, 0]);
-    assert_eq!(Bench::raw(0, 0).open(0), Ok(1));
-    assert_eq!(Bench::raw(96, 32).open(32), Ok(97));
-}
-
-#[test]
-fn new_refuses_in_order() {
-    assert_eq!(Bench::raw(4096, 4096).open(33), Err(OutOfRange));
-    let empty = |relations: usize, sets: usize, k: u32| {
-        new(&mut vec![0; relations], &mut vec![0; sets], &mut [], k)
-    };
-    assert_eq!(empty(0, 0, 33), Err(OutOfRange));
-    assert_eq!(empty(1, 1, 0), Err(NotStore));
-    assert_eq!(empty(2, 0, 0), Err(NotStore));
-    assert_eq!(empty(2, 1, 0), Ok(1));
-    assert_eq!(empty(14, 3, 1), Ok(4));
-    assert_eq!(empty(13, 3, 1), Err(UsedUp));
-    assert_eq!(empty(14, 2, 1), Err(UsedUp));
-}
 
 #[test]
 fn handles_at_one_field() {

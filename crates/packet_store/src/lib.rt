@@ -1,6 +1,9 @@
 // The calls of a packet store under C names: include/packet_store.h says what each does.
 pub mod answers;
 pub mod creation;
+pub mod filter_calls;
+pub mod image_calls;
+pub mod path_reads;
 pub mod relation_calls;
 pub mod relation_reads;
 pub mod set_calls;

@@ -2,6 +2,9 @@
 ghost use mathlib.Core.Path.{_≡_};
 ghost use mathlib.Core.Bool.{true};
 use crate::lines::Row;
+use store::filter_calls::FilterCall;
+use store::image_calls::ImageCall;
+use store::path_reads::PathRead;
 use store::relation_calls::RelationCall;
 use store::relation_reads::RelationRead;
 use store::set_calls::SetCall;
@@ -14,6 +17,9 @@ pub enum Call {
     ReadsSet(SetRead),
     AddsRelation(RelationCall),
     ReadsRelation(RelationRead),
+    AddsImage(ImageCall),
+    AddsFilter(FilterCall),
+    ReadsPath(PathRead),
     Nothing,
 }
 
@@ -147,6 +153,51 @@ fn relation_read(name: &[u8], row: Row) -> Call {
     Call::Nothing
 }
 
+// The calls that read relations and may add sets.
+fn image_call(name: &[u8], row: Row) -> Call {
+    let x = row.x;
+    if is(name, b"fwd", row, 1) {
+        return Call::AddsImage(ImageCall::Fwd(x[0]));
+    }
+    if is(name, b"bwd", row, 1) {
+        return Call::AddsImage(ImageCall::Bwd(x[0]));
+    }
+    if is(name, b"push", row, 2) {
+        return Call::AddsImage(ImageCall::Push(x[0], x[1]));
+    }
+    if is(name, b"pull", row, 2) {
+        return Call::AddsImage(ImageCall::Pull(x[0], x[1]));
+    }
+    Call::Nothing
+}
+
+// The calls that read sets and may add relations.
+fn filter_call(name: &[u8], row: Row) -> Call {
+    let x = row.x;
+    if is(name, b"diagonal", row, 1) {
+        return Call::AddsFilter(FilterCall::Diagonal(x[0]));
+    }
+    if is(name, b"ifwd", row, 1) {
+        return Call::AddsFilter(FilterCall::Ifwd(x[0]));
+    }
+    if is(name, b"ibwd", row, 1) {
+        return Call::AddsFilter(FilterCall::Ibwd(x[0]));
+    }
+    Call::Nothing
+}
+
+// The calls on relations and sets that add nothing.
+fn path_read(name: &[u8], row: Row) -> Call {
+    let x = row.x;
+    if is(name, b"has_image", row, 2) {
+        return Call::ReadsPath(PathRead::HasImage(x[0], x[1]));
+    }
+    if is(name, b"has_path", row, 3) {
+        return Call::ReadsPath(PathRead::HasPath(x[0], x[1], x[2]));
+    }
+    Call::Nothing
+}
+
 // The call on sets of this name.
 fn on_sets(name: &[u8], row: Row) -> Call {
     let call = set_call(name, row);
@@ -165,6 +216,33 @@ fn on_relations(name: &[u8], row: Row) -> Call {
     call
 }
 
+// The call of this name that adds nodes, between relations and sets.
+fn moving(name: &[u8], row: Row) -> Call {
+    let call = image_call(name, row);
+    if let Call::Nothing = call {
+        return filter_call(name, row);
+    }
+    call
+}
+
+// The call between relations and sets of this name.
+fn between(name: &[u8], row: Row) -> Call {
+    let call = moving(name, row);
+    if let Call::Nothing = call {
+        return path_read(name, row);
+    }
+    call
+}
+
+// The call on relations, or between them and sets, of this name.
+fn with_relations(name: &[u8], row: Row) -> Call {
+    let call = on_relations(name, row);
+    if let Call::Nothing = call {
+        return between(name, row);
+    }
+    call
+}
+
 // The call of this name with these numbers.
 fn named(name: &[u8], row: Row) -> Call {
     let x = row.x;
@@ -173,7 +251,7 @@ fn named(name: &[u8], row: Row) -> Call {
     }
     let call = on_sets(name, row);
     if let Call::Nothing = call {
-        return on_relations(name, row);
+        return with_relations(name, row);
     }
     call
 }

@@ -23,6 +23,9 @@ fn answer(relations: &mut [u32], sets: &mut [u32], work: &mut [u32], call: Call)
         Call::ReadsSet(c) => store::set_reads::set_read(relations, sets, work, c),
         Call::AddsRelation(c) => store::relation_calls::relation_call(relations, sets, work, c),
         Call::ReadsRelation(c) => store::relation_reads::relation_read(relations, sets, work, c),
+        Call::AddsImage(c) => store::image_calls::image_call(relations, sets, work, c),
+        Call::AddsFilter(c) => store::filter_calls::filter_call(relations, sets, work, c),
+        Call::ReadsPath(c) => store::path_reads::path_read(relations, sets, work, c),
         Call::New(_, _, _) => store::Answer::Declined(store::Refusal::NotStore),
         Call::Nothing => store::Answer::Declined(store::Refusal::NotStore),
     }

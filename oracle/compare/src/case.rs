@@ -1,6 +1,6 @@
 //! One call of the library on lent memory, compared with what the oracle says.
 
-use crate::lent::Lent;
+use crate::lent::{Guard, Lent};
 use crate::library::{self, Memories};
 use crate::memory::encode;
 use oracle::answer::Answer;
@@ -31,9 +31,9 @@ impl fmt::Display for Difference {
 
 impl Case {
     /// Memories of these lengths, full of noise.
-    pub fn noise(lengths: (usize, usize), random: &mut Random) -> Case {
-        let relations = Lent::noise(lengths.0, random);
-        Case { relations, sets: Lent::noise(lengths.1, random), work: 0 }
+    pub fn noise(lengths: (usize, usize), guard: Guard, random: &mut Random) -> Case {
+        let relations = Lent::noise(lengths.0, guard, random);
+        Case { relations, sets: Lent::noise(lengths.1, guard, random), work: 0 }
     }
 
     /// Writes a store into the memories.
@@ -55,7 +55,7 @@ impl Case {
         if let Some(store) = after {
             expected.encode(store);
         }
-        let mut work = Lent::noise(self.work, random);
+        let mut work = Lent::noise(self.work, self.sets.guard(), random);
         let mut zeros = work.clone();
         zeros.numbers_mut().fill(0);
         let given = library::make(

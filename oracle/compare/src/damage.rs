@@ -1,7 +1,7 @@
 //! Damaged memory: one number changed or some numbers cut off, then every call with any arguments.
 
 use crate::case::{line, Case, Difference};
-use crate::lent::WorkLengths;
+use crate::lent::{Guard, WorkLengths};
 use crate::library;
 use crate::memory::{decode, headed, lengths, places_in};
 use oracle::answer::{Answer, Refusal};
@@ -25,14 +25,14 @@ struct Counts {
     used_up: u64,
 }
 
-/// Damages this many stores, each in many ways.
-pub fn compare(seed: u64, count: usize, part: Part) -> Result<String, Difference> {
+/// Damages this many stores, each in many ways, in memories so guarded.
+pub fn compare(seed: u64, count: usize, part: Part, guard: Guard) -> Result<String, Difference> {
     let mut counts = Counts::default();
     let mut random = Random::new(seed);
     let mut work = WorkLengths::new();
     for number in 0..count {
         let store = drawn(&mut random, part);
-        let whole = lent(&store, &mut random);
+        let whole = lent(&store, guard, &mut random);
         for (damage, case) in damages(&whole, &mut random) {
             every_call(case, part, &mut counts, &mut work, &mut random).map_err(
                 |(call, what)| {
@@ -63,11 +63,12 @@ fn drawn(random: &mut Random, part: Part) -> Store {
 }
 
 /// Memories that hold the store, with few free places or none, and some numbers beyond the last.
-fn lent(store: &Store, random: &mut Random) -> Case {
+fn lent(store: &Store, guard: Guard, random: &mut Random) -> Case {
     let (n, m) = store.counts();
     let places = (n + random.below(3), m + random.below(6));
     let beyond = (random.below(4) as usize, random.below(2) as usize);
-    let mut case = Case::noise(lengths(places.0 as usize, places.1 as usize, beyond), random);
+    let lengths = lengths(places.0 as usize, places.1 as usize, beyond);
+    let mut case = Case::noise(lengths, guard, random);
     case.encode(store);
     case
 }

@@ -3,38 +3,52 @@
 use oracle::random::Random;
 
 /// The guard words before the numbers, and as many after them.
-const GUARD: usize = 8;
+#[derive(Clone, Copy, PartialEq, Eq)]
+pub enum Guard {
+    Words = 8,
+    /// None: the numbers are a heap block of their own, whose ends valgrind watches.
+    Bare = 0,
+}
 
 #[derive(Clone, PartialEq, Eq)]
 pub struct Lent {
     words: Vec<u32>,
+    guard: Guard,
 }
 
 impl Lent {
     /// This many numbers, all of them noise.
-    pub fn noise(len: usize, random: &mut Random) -> Lent {
-        Lent { words: (0..len + 2 * GUARD).map(|_| random.bits() as u32).collect() }
+    pub fn noise(len: usize, guard: Guard, random: &mut Random) -> Lent {
+        let words = (0..len + 2 * guard as usize).map(|_| random.bits() as u32).collect();
+        Lent { words, guard }
+    }
+
+    pub fn guard(&self) -> Guard {
+        self.guard
     }
 
     pub fn numbers(&self) -> &[u32] {
-        &self.words[GUARD..self.words.len() - GUARD]
+        let guard = self.guard as usize;
+        &self.words[guard..self.words.len() - guard]
     }
 
     pub fn numbers_mut(&mut self) -> &mut [u32] {
-        let end = self.words.len() - GUARD;
-        &mut self.words[GUARD..end]
+        let guard = self.guard as usize;
+        let end = self.words.len() - guard;
+        &mut self.words[guard..end]
     }
 
     /// The first numbers alone, with the guard words after them.
     pub fn cut(&self, len: usize) -> Lent {
-        let end = self.words.len() - GUARD;
-        Lent { words: [&self.words[..GUARD + len], &self.words[end..]].concat() }
+        let guard = self.guard as usize;
+        let end = self.words.len() - guard;
+        Lent { words: [&self.words[..guard + len], &self.words[end..]].concat(), ..*self }
     }
 
     /// Where two memories of one length differ first, and the numbers there.
     pub fn difference(&self, other: &Lent) -> Option<String> {
         let at = (0..self.words.len()).find(|&at| self.words[at] != other.words[at])?;
-        let place = at as isize - GUARD as isize;
+        let place = at as isize - self.guard as isize;
         Some(format!("number {place} is {}, not {}", self.words[at], other.words[at]))
     }
 }

@@ -17,7 +17,7 @@ type Run = fn(Memories, &[u32]) -> Result<Answer, library::Refusal>;
 pub const NEW: Run = |m, x| library::new(m.relations, m.sets, m.work, x[0]).map(Answer::Handle);
 
 /// All other calls.
-pub static CALLS: [(&str, Run); 32] = [
+pub static CALLS: [(&str, Run); 41] = [
     ("set.mk", |m, x| library::set_mk(m.relations, m.sets, m.work, x[0], x[1]).map(Answer::Handle)),
     ("set.get", |m, x| {
         let children = library::set_get(m.relations, m.sets, m.work, x[0])?;
@@ -101,6 +101,25 @@ pub static CALLS: [(&str, Run); 32] = [
     ("relates", |m, x| {
         library::relation_relates(m.relations, m.sets, m.work, x[0], x[1], x[2]).map(Answer::YesNo)
     }),
+    ("fwd", |m, x| library::relation_fwd(m.relations, m.sets, m.work, x[0]).map(Answer::Handle)),
+    ("bwd", |m, x| library::relation_bwd(m.relations, m.sets, m.work, x[0]).map(Answer::Handle)),
+    ("ifwd", |m, x| library::relation_ifwd(m.relations, m.sets, m.work, x[0]).map(Answer::Handle)),
+    ("ibwd", |m, x| library::relation_ibwd(m.relations, m.sets, m.work, x[0]).map(Answer::Handle)),
+    ("push", |m, x| {
+        library::relation_push(m.relations, m.sets, m.work, x[0], x[1]).map(Answer::Handle)
+    }),
+    ("pull", |m, x| {
+        library::relation_pull(m.relations, m.sets, m.work, x[0], x[1]).map(Answer::Handle)
+    }),
+    ("diagonal", |m, x| {
+        library::relation_diagonal(m.relations, m.sets, m.work, x[0]).map(Answer::Handle)
+    }),
+    ("has_image", |m, x| {
+        library::relation_has_image(m.relations, m.sets, m.work, x[0], x[1]).map(Answer::YesNo)
+    }),
+    ("has_path", |m, x| {
+        library::relation_has_path(m.relations, m.sets, m.work, x[0], x[1], x[2]).map(Answer::YesNo)
+    }),
 ];
 
 /// Makes a call of the library; `new` is there too.
@@ -109,7 +128,7 @@ pub fn make(name: &str, arguments: &[u32], memories: Memories) -> Answer {
         "new" => NEW,
         _ => {
             let found = CALLS.iter().find(|call| call.0 == name);
-            found.unwrap_or_else(|| panic!("the library has no call {name} yet")).1
+            found.unwrap_or_else(|| panic!("the library has no call {name}")).1
         }
     };
     run(memories, arguments).unwrap_or_else(|refusal| Answer::Refused(oracles(refusal)))
@@ -117,7 +136,7 @@ pub fn make(name: &str, arguments: &[u32], memories: Memories) -> Answer {
 
 /// Whether an operation takes or makes relations.
 pub fn on_relations(operation: &Operation) -> bool {
-    operations::RELATIONS.iter().any(|other| other.name == operation.name)
+    !operations::SETS.iter().any(|other| other.name == operation.name)
 }
 
 /// The oracle's name of a refusal.

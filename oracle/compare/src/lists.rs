@@ -1,7 +1,7 @@
 //! Random lists of calls: after each call the answer and both memories are compared.
 
 use crate::case::{Case, Difference};
-use crate::lent::WorkLengths;
+use crate::lent::{Guard, WorkLengths};
 use crate::library;
 use crate::memory::lengths;
 use oracle::answer::{Answer, Refusal};
@@ -18,6 +18,8 @@ struct Counts {
     calls: u64,
     stores: u64,
     refused: [u64; 7],
+    /// The accepted calls of each name.
+    accepted: BTreeMap<&'static str, u64>,
     /// The calls on stores of each number of fields.
     fields: BTreeMap<u32, u64>,
     most_nodes: (u32, u32),
@@ -29,7 +31,7 @@ pub fn compare(seed: u64, count: usize, part: Part) -> Result<String, Difference
     let mut noise = Random::new(!seed);
     let mut work = WorkLengths::new();
     let mut store = empty_store();
-    let mut case = Case::noise(lengths(0, 0, (0, 0)), &mut noise);
+    let mut case = Case::noise(lengths(0, 0, (0, 0)), Guard::Words, &mut noise);
     case.encode(&store);
     for (number, call) in Draw::new(seed, part).take(count).enumerate() {
         let on_relations =
@@ -42,7 +44,7 @@ pub fn compare(seed: u64, count: usize, part: Part) -> Result<String, Difference
             }
             Call::Operation(operation, arguments) => {
                 let answer = store.call(operation, arguments);
-                counts.enter(&answer, &store);
+                counts.enter(operation.name, &answer, &store);
                 let accepted = !matches!(answer, Answer::Refused(_));
                 let after = accepted.then_some(&store);
                 case.make(operation.name, arguments, &answer, after, &mut noise)
@@ -73,13 +75,14 @@ fn open(
     noise: &mut Random,
 ) -> Result<(), String> {
     let beyond = (noise.below(4) as usize, noise.below(2) as usize);
-    let mut fresh = Case::noise(lengths(places.0 as usize, places.1 as usize, beyond), noise);
+    let lengths = lengths(places.0 as usize, places.1 as usize, beyond);
+    let mut fresh = Case::noise(lengths, Guard::Words, noise);
     fresh.work = case.work;
     match Store::new(fields, places.0, places.1) {
         Ok(mut opened) => {
             let top = opened.ask("top", &[]);
             counts.stores += 1;
-            counts.enter(&top, &opened);
+            counts.enter("new", &top, &opened);
             fresh.make("new", &[fields], &top, Some(&opened), noise)?;
             *store = opened;
             *case = fresh;
@@ -87,7 +90,7 @@ fn open(
         }
         Err(refusal) => {
             let answer = Answer::Refused(refusal);
-            counts.enter(&answer, store);
+            counts.enter("new", &answer, store);
             fresh.make("new", &[fields], &answer, None, noise)?;
             // Too many fields are refused on the memories in use too.
             if refusal == Refusal::OutOfRange {
@@ -100,10 +103,11 @@ fn open(
 
 impl Counts {
     /// Enters a call that the oracle answered, and the store after it.
-    fn enter(&mut self, answer: &Answer, store: &Store) {
+    fn enter(&mut self, name: &'static str, answer: &Answer, store: &Store) {
         self.calls += 1;
-        if let Answer::Refused(refusal) = answer {
-            self.refused[*refusal as usize] += 1;
+        match answer {
+            Answer::Refused(refusal) => self.refused[*refusal as usize] += 1,
+            _ => *self.accepted.entry(name).or_default() += 1,
         }
         *self.fields.entry(store.fields()).or_default() += 1;
         let (n, m) = store.counts();
@@ -115,9 +119,13 @@ impl Counts {
             (1..7).map(|number| format!("{number}: {}", self.refused[number])).collect();
         let fields: Vec<String> =
             self.fields.iter().map(|(fields, calls)| format!("{fields}: {calls}")).collect();
+        let least = self.accepted.iter().min_by_key(|(_, calls)| **calls);
+        let (name, times) = least.expect("a list begins with an accepted new");
         format!(
-            "AGREES seed {seed}: {} calls, {} stores, refused {}, calls by fields {}, at most {} and {} nodes",
+            "AGREES seed {seed}: {} calls of {} names, {name} accepted {times} times and the others no less, {} stores, \
+             refused {}, calls by fields {}, at most {} and {} nodes",
             self.calls,
+            self.accepted.len(),
             self.stores,
             refused.join(", "),
             fields.join(", "),

@@ -9,11 +9,13 @@ mod lists;
 mod memory;
 
 use case::Difference;
+use lent::Guard;
 use oracle::draw::Part;
 use std::process::ExitCode;
 
 const USAGE: &str = "usage: compare calls SEED COUNT [sets | relations | both]
        compare damage SEED COUNT [sets | relations | both]
+       compare bare SEED COUNT [sets | relations | both]
        compare growth";
 
 fn main() -> ExitCode {
@@ -41,20 +43,26 @@ fn run(words: &[&str]) -> Option<Result<String, Difference>> {
         ["calls", seed, count, ref kind @ ..] => {
             Some(lists::compare(seed.parse().ok()?, count.parse().ok()?, part(kind)?))
         }
-        ["damage", seed, count, ref kind @ ..] => {
-            Some(damage::compare(seed.parse().ok()?, count.parse().ok()?, part(kind)?))
-        }
+        ["damage", ref words @ ..] => damaged(words, Guard::Words),
+        ["bare", ref words @ ..] => damaged(words, Guard::Bare),
         ["growth"] => Some(Ok(growth::measure())),
         _ => None,
     }
 }
 
-/// The operations to draw; on either kind where none are named.
+/// The comparison on damaged memories, so guarded.
+fn damaged(words: &[&str], guard: Guard) -> Option<Result<String, Difference>> {
+    let [seed, count, ref kind @ ..] = *words else { return None };
+    Some(damage::compare(seed.parse().ok()?, count.parse().ok()?, part(kind)?, guard))
+}
+
+/// The operations to draw; all where none are named.
 fn part(words: &[&str]) -> Option<Part> {
     match *words {
         ["sets"] => Some(Part::Sets),
         ["relations"] => Some(Part::Relations),
-        [] | ["both"] => Some(Part::Both),
+        ["both"] => Some(Part::Both),
+        [] => Some(Part::All),
         _ => None,
     }
 }

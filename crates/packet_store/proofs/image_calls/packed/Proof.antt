@@ -1,0 +1,23 @@
+-- One call, its answer packed.
+use borrow.Author.Needs.{needs}
+use Rattle.packet_store.proofs.Answering.{answers}
+use Rattle.packet_store.proofs.image_calls.packed.Statement.{statement}
+use Rattle.packet_store.proofs.image_calls.packed.Tie as tie
+
+image-call-requires : tie.Need-image-call-requires
+image-call-requires c κs = search needs
+
+pack-requires : tie.Need-pack-requires
+pack-requires c κs = search needs
+
+same-length : tie.Need-same-length
+same-length c = search needs
+
+same-length-2 : tie.Need-same-length-2
+same-length-2 c = search needs
+
+returns : tie.Need-returns
+returns c = answers _ _ _ _ _ _ _ (c .before .before .before .before .before .image-call .ensures) (c .pack .ensures)
+
+pub packed-spec : {M : Type 1} → statement M
+packed-spec = tie.close (tie.spec image-call-requires pack-requires same-length same-length-2 returns)

@@ -1,0 +1,56 @@
+// The calls that read sets and may add relations, under C names.
+ghost use Rattle.judging.specs.Memory.{memories};
+ghost use Rattle.store.specs.Calls.{filter-call};
+ghost use Rattle.store.specs.declared.filter_calls.FilterCall.the-variants.{Diagonal, Ifwd, Ibwd};
+ghost use Rattle.packet_store.specs.Packed.{Answers};
+use store::filter_calls::FilterCall;
+
+// Any of these calls, its answer packed.
+fn packed(relations: &mut [u32], sets: &[u32], work: &mut [u32], call: FilterCall) -> u64
+    ensures { λ r. ⌜ Answers (filter-call call) (memories (now (relations .entry)) (now (sets .entry)))
+        (memories (now (relations .exit)) (now (sets .entry))) (now (work .entry)) (now (work .exit)) r ⌝ }
+{
+    crate::answers::pack(store::filter_calls::filter_call(relations, sets, work, call))
+}
+
+// Each packet of p, to itself.
+#[no_mangle]
+pub extern "C" fn packet_store_relation_diagonal(
+    relations: &mut [u32],
+    sets: &[u32],
+    work: &mut [u32],
+    p: u32,
+) -> u64
+    ensures { λ r. ⌜ Answers (filter-call (Diagonal p)) (memories (now (relations .entry)) (now (sets .entry)))
+        (memories (now (relations .exit)) (now (sets .entry))) (now (work .entry)) (now (work .exit)) r ⌝ }
+{
+    packed(relations, sets, work, FilterCall::Diagonal(p))
+}
+
+// Every packet, to each packet of p.
+#[no_mangle]
+pub extern "C" fn packet_store_relation_ifwd(
+    relations: &mut [u32],
+    sets: &[u32],
+    work: &mut [u32],
+    p: u32,
+) -> u64
+    ensures { λ r. ⌜ Answers (filter-call (Ifwd p)) (memories (now (relations .entry)) (now (sets .entry)))
+        (memories (now (relations .exit)) (now (sets .entry))) (now (work .entry)) (now (work .exit)) r ⌝ }
+{
+    packed(relations, sets, work, FilterCall::Ifwd(p))
+}
+
+// Each packet of p, to every packet.
+#[no_mangle]
+pub extern "C" fn packet_store_relation_ibwd(
+    relations: &mut [u32],
+    sets: &[u32],
+    work: &mut [u32],
+    p: u32,
+) -> u64
+    ensures { λ r. ⌜ Answers (filter-call (Ibwd p)) (memories (now (relations .entry)) (now (sets .entry)))
+        (memories (now (relations .exit)) (now (sets .entry))) (now (work .entry)) (now (work .exit)) r ⌝ }
+{
+    packed(relations, sets, work, FilterCall::Ibwd(p))
+}
