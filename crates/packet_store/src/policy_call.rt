@@ -8,7 +8,7 @@ ghost use Rattle.packet_store.specs.Packed.{offset, packed-policy, Answe
 use policies::{Fault, PolicyAnswer, PolicyRefusal};
 
 // The number of what is wrong at a place in a text.
-fn fault_number(f: Fault) -> u64
+fn fault_number(f: Fault) -> u32
     ensures { λ n. ⌜ n ≡ fault-number f ⌝ }
 {
     match f {
@@ -25,7 +25,7 @@ fn pack_refusal(r: PolicyRefusal) -> u64
     ensures { λ n. ⌜ n ≡ packed-policy (Declined r) ⌝ }
 {
     match r {
-        PolicyRefusal::At(f, i) => fault_number(f) * 0x1_0000_0000 + i as u64,
+        PolicyRefusal::At(f, i) => fault_number(f) as u64 * 0x1_0000_0000 + i as u64,
         PolicyRefusal::Store(s) => store::number_of(s) as u64 * 0x1_0000_0000,
     }
 }
