@@ -72,7 +72,8 @@ impl Policy {
     fn offending_negation(&self) -> Option<usize> {
         let offending = |part: &Policy| match part {
             Policy::Not { at, operand } => {
-                let other = |part: &&Policy| matches!(part, Policy::Assign { .. } | Policy::Star(_));
+                let other =
+                    |part: &&Policy| matches!(part, Policy::Assign { .. } | Policy::Star(_));
                 operand.parts().iter().any(other).then_some(*at)
             }
             _ => None,

@@ -20,7 +20,8 @@ add-result c =
 
 returns : tie.Need-returns
 returns c =
-    ap (λ (v : ℕ). v * 4294967296 + _) (c .fault-number .ensures) ∙ sym (ap refused (c .before .before .r .given .1))
+    let i = c .before .before .r .given .0 .1 .0 in
+    ap (λ (v : ℕ). v * 4294967296 + i) (c .fault-number .ensures) ∙ sym (ap refused (c .before .before .r .given .1))
 
 returns-2 : tie.Need-returns-2
 returns-2 c =
@@ -32,6 +33,7 @@ pack-refusal-spec =
     (tie.spec
     (λ c. search needs)
     (λ c κs. search needs)
+    (λ c. search needs)
     (λ c. search needs)
     add-result
     (λ c. search needs)
