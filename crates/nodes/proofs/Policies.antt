@@ -8,7 +8,7 @@ use native.Mathlib.Omega.{arith}
 use lib.Dec.{T, ltb→lt}
 use Rattle.nodes.specs.Meaning.{Rel, Relates, Filter, Without, Steps}
 use Rattle.nodes.specs.Operations.{difference}
-use Rattle.nodes.specs.Packets.{none, more, Packet}
+use Rattle.nodes.specs.Packets.{none, more}
 use Rattle.nodes.specs.Policies.{Policy, fail, skip, tests, assigns, negates, plus, seq, stars, meaning, fields-below?, policy-program}
 use Rattle.nodes.specs.Store.{rel, Store}
 use Rattle.nodes.specs.WellFormed.{WellFormed}

@@ -1,26 +1,20 @@
 -- Each kind of atom is built, from what its operand's build and its operations do; the first byte tells the kind.
-use mathlib.Core.Path.{_≡_, refl, sym, ap, _∙_, subst}
+use mathlib.Core.Path.{_≡_, refl, _∙_, subst}
 use mathlib.Core.List.{List, [], _∷_, _++_, append-assoc}
-use mathlib.Core.Bool.{Bool, true, false}
 use Prim.Native.Nat.{ℕ, _+_, _≤_}
 use native.Mathlib.Omega.{arith}
-use lib.Dec.{eqb}
 use lib.ListN.{length, getD, drop}
 use Rattle.nodes.specs.Store.{rel}
-use Rattle.nodes.specs.Operations.{zero-at-depth, one-at-depth, test, assign, difference}
-use Rattle.nodes.specs.Policies.{Policy, policy-program, tests, assigns}
+use Rattle.nodes.specs.Operations.{zero-at-depth, one-at-depth, difference}
+use Rattle.nodes.specs.Policies.{Policy, policy-program}
 use Rattle.memory.specs.Arena.{Performs}
 use Rattle.memory.specs.declared.Arena.{Arena}
 use Rattle.memory.proofs.Steps.{performs-then}
-use Rattle.texts.specs.Grammar.{Bit, b-zero, b-one, Atom, a-zero, a-one, a-test, a-assign, a-neg, a-paren, Sum}
-use Rattle.policies.specs.Items.{Past, ReadsNumber}
-use Rattle.policies.specs.Building.{Named, BuildsPart, Builds, after-atom, after-sum}
+use Rattle.texts.specs.Grammar.{Atom, a-zero, a-one, a-test, a-assign, a-neg, a-paren, Sum}
+use Rattle.policies.specs.Items.{Past}
+use Rattle.policies.specs.Building.{built, Named, BuildsPart, Builds, after-atom, after-sum}
 use Rattle.policies.specs.declared.build.Built.{Built}
-use Rattle.policies.specs.declared.items.Number.{Number}
 use Rattle.policies.proofs.Suffixes.{first-is, next}
-
-abbrev built : Arena → ℕ → Built
-built a e = record { made = a; end = e }
 
 -- AN ATOM by its first byte, and what stands after that
 data By (t : List ℕ) (at : ℕ) (rest : List ℕ) : ℕ → Policy → Type 0 where

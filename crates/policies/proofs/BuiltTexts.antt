@@ -25,9 +25,10 @@ use Rattle.store.specs.declared.Answer as store
 use Rattle.store.specs.declared.Refusal.the-variants.{TooLong, UsedUp}
 use Rattle.store.proofs.Outcomes.{with-memory, judged}
 use Rattle.store.proofs.Running.{part-of, within-memory, ran-here}
-use Rattle.texts.specs.Reading.{reading, tree}
+use Rattle.texts.specs.Answers.{tree}
+use Rattle.texts.specs.Reading.{reading}
 use Rattle.texts.specs.declared.Reading.{Reading}
-use Rattle.policies.proofs.Stub.{policy-read}
+use Rattle.texts.proofs.Says.{tree-keeps}
 use Rattle.policies.specs.Building.{BuildsText}
 use Rattle.policies.specs.Lists.{retold}
 use Rattle.policies.specs.Outcome.{TextVerdict, refuses, builds, of-reading, short?, text-verdict, text-concludes, policy-step}
@@ -51,10 +52,12 @@ module _ (t : List ℕ) (M : Memories) (w : List ℕ) (Y : Accepted rel M w) (r 
   read-refused q f = policy-refused t M (Y .store) q (short-verdict (fields M) t r s e ∙ f)
 
 -- how a run ended
-pub fitted : {m m′ : List ℕ} {start c n : ℕ} {r : Arena} → Committed m m′ start c n r → r .ok ≡ true → Finished m m′ start c n r (store.the-variants.Handle (r .h))
+pub fitted : {m m′ : List ℕ} {start c n : ℕ} {r : Arena} → Committed m m′ start c n r → r .ok ≡ true
+    → Finished m m′ start c n r (store.the-variants.Handle (r .h))
 fitted C t = record { fitted = λ t. (refl, C .fitted t); full = λ f. absurd (false≢true (sym f ∙ t)) }
 
-pub full : {m m′ : List ℕ} {start c n : ℕ} {r : Arena} → Committed m m′ start c n r → r .ok ≡ false → Finished m m′ start c n r (store.the-variants.Declined UsedUp)
+pub full : {m m′ : List ℕ} {start c n : ℕ} {r : Arena} → Committed m m′ start c n r → r .ok ≡ false
+    → Finished m m′ start c n r (store.the-variants.Declined UsedUp)
 full C f = record { fitted = λ t. absurd (false≢true (sym f ∙ t)); full = λ f. (refl, C .full f) }
 
 -- a text within the rules
@@ -65,10 +68,10 @@ module _ (t : List ℕ) (M : Memories) (w : List ℕ) (Y : Accepted rel M w) (n 
   p = policy-program (fields M) (tree t)
 
   performs : Performs rel (policy-program k (tree t)) (arena true n 0) (part-of rel M) b w w′ r
-  performs = B .builds 32 (tree t) (policy-read (fields M) t e .0)
+  performs = B .builds 32 (tree t) (tree-keeps (fields M) t e .0)
 
   safe : Safe p (decode M)
-  safe = policy-does (tree t) (policy-read (fields M) t e .1) (Y .store .formed) .safe
+  safe = policy-does (tree t) (tree-keeps (fields M) t e .1) (Y .store .formed) .safe
 
   pub built-within : (n ≤ r .n) × (r .n ≤ 4096) × (2 + 4 * r .n ≤ length (putMid 2 (length (M .relations) - 2) (M .relations) b))
   built-within = within-memory rel M w Y n en tt p _ b w′ r (ap (λ k. policy-program k (tree t)) ek) safe performs

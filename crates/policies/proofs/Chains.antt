@@ -2,7 +2,6 @@
 use mathlib.Core.Path.{_≡_, refl, sym, ap, _∙_, subst}
 use mathlib.Core.List.{List, [], _∷_, _++_, append-assoc, append-nil}
 use Prim.Native.Nat.{ℕ, _+_}
-use native.Mathlib.Omega.{arith}
 use lib.ListN.{getD, drop}
 use Rattle.nodes.specs.Policies.{Policy, plus, seq, stars}
 use Rattle.texts.specs.Grammar.{Atom, Starred, Product, Sum, s-atom, s-star, p-one, p-seq, u-one, u-plus}

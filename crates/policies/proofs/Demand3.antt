@@ -20,7 +20,7 @@ use Rattle.store.specs.declared.Answer.the-variants as store
 use Rattle.store.specs.declared.Refusal.the-variants.{UsedUp}
 use Rattle.store.proofs.InTurn.{turn-parted, each-before}
 use Rattle.store.proofs.Lists.{lists-right}
-use Rattle.policies.specs.Lists.{AnyCall, policy, any-step, all-calls, text-relates, KeepsRules, answer-after, AcceptedIn, plain-run, Demand3}
+use Rattle.policies.specs.Lists.{AnyCall, policy, any-step, all-calls, text-relates, Keeps, policy-of, answer-after, AcceptedIn, plain-run, Demand3}
 use Rattle.policies.specs.Outcome.{builds, text-verdict, text-concludes, policy-step, plain-policy-step}
 use Rattle.policies.specs.declared.PolicyAnswer.the-variants.{Handle, Declined}
 use Rattle.policies.specs.declared.PolicyRefusal.the-variants.{Store}
@@ -29,13 +29,14 @@ use Rattle.policies.proofs.OneText.{TextRight, text-right}
 use Rattle.policies.proofs.TextOutcomes.{kept-builds}
 
 -- the answer of a policy that is built
-built-answer : {X : Type 0} (m n k : ℕ) (t : List ℕ) (r : KeepsRules k t) (S : Nodes) (x : X) (put : Nodes → X)
-    → (let R = run (policy-program k (r .tree)) S in
+built-answer : {X : Type 0} (m n k : ℕ) (t : List ℕ) (r : Keeps k t) (S : Nodes) (x : X) (put : Nodes → X)
+    → (let R = run (policy-program k (policy-of r)) S in
     text-concludes m n (text-verdict t k) S x put .answer ≡ pick (fits-places m n (R .store)) (Handle (R .value)) (Declined (Store UsedUp)))
 unfolding text-concludes
-built-answer m n k t r S x put = let R = run (policy-program k (r .tree)) S in
+built-answer m n k t r S x put = let R = run (policy-program k (policy-of r)) S in
     ap (λ v. text-concludes m n v S x put .answer) (kept-builds k t r)
-    ∙ by-test (λ b. pick b (told (Handle (R .value)) (put (R .store))) (told (Declined (Store UsedUp)) x) .answer ≡ pick b (Handle (R .value)) (Declined (Store UsedUp)))
+    ∙ by-test (λ b. pick b (told (Handle (R .value)) (put (R .store))) (told (Declined (Store UsedUp)) x) .answer
+    ≡ pick b (Handle (R .value)) (Declined (Store UsedUp)))
     (fits-places m n (R .store)) (λ _. refl) (λ _. refl)
 
 module _ (k : ℕ) (M₀ : Memories) (z : ℕ) (new : step (new-store k) M₀ .answer ≡ store.Handle z) where
@@ -74,15 +75,16 @@ module _ (k : ℕ) (M₀ : Memories) (z : ℕ) (new : step (new-store k) M₀ .a
     accepted-right t h A = text-right t _ h (A .handle)
 
     relates-end : (t : List ℕ) (h : ℕ) → AcceptedIn k M₀ cs t h → Relates k (text-relates k t) end h
-    relates-end t h A = relates-ext (lasts-there t (A .before) (A .later) (A .is) .grown)
-        (subst (λ j. Relates j (text-relates j t) (decode (policy-step t (there t (A .before) (A .later) (A .is)) .state)) h) (width-there t (A .before) (A .later) (A .is)) (accepted-right t h A .relates))
+    relates-end t h A = let S = decode (policy-step t (there t (A .before) (A .later) (A .is)) .state) in
+        relates-ext (lasts-there t (A .before) (A .later) (A .is) .grown)
+        (subst (λ j. Relates j (text-relates j t) S h) (width-there t (A .before) (A .later) (A .is)) (accepted-right t h A .relates))
 
-    keeps-end : (t : List ℕ) (h : ℕ) → AcceptedIn k M₀ cs t h → KeepsRules k t
-    keeps-end t h A = subst (λ j. KeepsRules j t) (width-there t (A .before) (A .later) (A .is)) (accepted-right t h A .keeps)
+    keeps-end : (t : List ℕ) (h : ℕ) → AcceptedIn k M₀ cs t h → Keeps k t
+    keeps-end t h A = subst (λ j. Keeps j t) (width-there t (A .before) (A .later) (A .is)) (accepted-right t h A .keeps)
 
-    refused-there : (t : List ℕ) (before later : List AnyCall) → cs ≡ before ++ (policy t ∷ later) → (r : KeepsRules k t)
-        → answer-after k M₀ before t ≡ pick (fits-places (set-places M₀) (rel-places M₀) (plain-run k M₀ before (r .tree) .store))
-        (Handle (plain-run k M₀ before (r .tree) .value)) (Declined (Store UsedUp))
+    refused-there : (t : List ℕ) (before later : List AnyCall) → cs ≡ before ++ (policy t ∷ later) → (r : Keeps k t)
+        → answer-after k M₀ before t ≡ pick (fits-places (set-places M₀) (rel-places M₀) (plain-run k M₀ before (policy-of r) .store))
+        (Handle (plain-run k M₀ before (policy-of r) .value)) (Declined (Store UsedUp))
     unfolding plain-policy-step
     refused-there t before later is r =
         let A = right before .matches in

@@ -1,12 +1,12 @@
 -- A field's number is read from its digits: none, one or two of them stand there.
-use mathlib.Core.Path.{_≡_, refl, sym, ap, _∙_, subst}
-use mathlib.Core.List.{List, [], _∷_, _++_}
+use mathlib.Core.Path.{_≡_, refl, sym, ap, _∙_}
+use mathlib.Core.List.{List, _++_}
 use mathlib.Core.Bool.{Bool, true, false, _&&_}
 use Prim.Native.Nat.{ℕ, _+_, _-_, _*_, _≤_, _<_}
 use native.Mathlib.Omega.{arith}
 use lib.Dec.{leb}
 use lib.ListN.{length, getD, drop}
-use borrow.Author.Tests.{le-leb, leb-true, leb-false}
+use borrow.Author.Tests.{le-leb, leb-true}
 use Rattle.memory.proofs.Steps.{false≢true}
 use Rattle.texts.specs.Grammar.{Field, f-zero, f-one, f-two}
 use Rattle.policies.specs.Items.{ReadsNumber}

@@ -4,9 +4,9 @@ pub mod Names
 pub mod Chains
 pub mod Loops
 pub mod Atoms
-pub mod Stub
 pub mod TextOutcomes
 pub mod BuiltTexts
 pub mod OneText
 pub mod AllCalls
 pub mod Demand3
+pub mod WrongTexts

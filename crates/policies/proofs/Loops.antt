@@ -8,7 +8,7 @@ use Rattle.nodes.specs.Store.{rel}
 use Rattle.nodes.specs.Programs.{Prog, _>>=_}
 use Rattle.nodes.specs.Operations.{union}
 use Rattle.nodes.specs.Relations.{sequence, star}
-use Rattle.nodes.specs.Policies.{Policy, plus, seq, stars, policy-program}
+use Rattle.nodes.specs.Policies.{Policy, plus, seq, policy-program}
 use Rattle.memory.specs.Arena.{Performs}
 use Rattle.memory.specs.declared.Arena.{Arena}
 use Rattle.memory.proofs.Steps.{performs-then, performs-by}
@@ -51,7 +51,8 @@ pub record OnWay (b : ℕ) (St : Step) (k : ℕ) (t : List ℕ) (p : Policy) (re
   pub performs : Performs rel (policy-program k so-far) s m m′ w w′ (r .made)
 
 -- what the loop keeps
-pub record Looping (G : Rank) (After : ℕ → Type 0) (b : ℕ) (St : ℕ → Step) (k : ℕ) (t : List ℕ) (at : ℕ) (s : Arena) (m m′ w w′ : List ℕ) (r : Built) : Type 0 where
+pub record Looping (G : Rank) (After : ℕ → Type 0) (b : ℕ) (St : ℕ → Step) (k : ℕ) (t : List ℕ) (at : ℕ) (s : Arena) (m m′ w w′ : List ℕ)
+    (r : Built) : Type 0 where
   pub from : at ≤ r .end
   pub within : r .end ≤ length t
   pub way : (d : ℕ) (u : List ℕ) (p : Policy) (rest : List ℕ) → G d u p → drop at t ≡ u ++ rest → After (getD rest 0 0)
@@ -113,12 +114,13 @@ module _ {G Item : Rank} {After Below : ℕ → Type 0} {b : ℕ} {join : Policy
           ahead = a .steps;
           chain = a .chain;
           stands = ap (λ n. drop n t) e ∙ i .stands;
-          performs = performs-by (ap (policy-program k) (a .by .2) ∙ program (o .so-far) (a .by .0)) (performs-then (o .performs) (performs-then (i .performs) P));
+          performs = performs-by (ap (policy-program k) (a .by .2) ∙ program (o .so-far) (a .by .0))
+              (performs-then (o .performs) (performs-then (i .performs) P));
         };
   }
 
-  pub loop-joins : {m₀ w₀ : List ℕ} {r₀ : Built} → Carried G After b (joined join Item) k t at m₀ w₀ r₀ m₁ w₁ p → length m₃ ≡ length m₀ → length w₃ ≡ length w₀
-      → Carried G After b (joined join Item) k t at m₀ w₀ r₀ m₃ w₃ r
+  pub loop-joins : {m₀ w₀ : List ℕ} {r₀ : Built} → Carried G After b (joined join Item) k t at m₀ w₀ r₀ m₁ w₁ p → length m₃ ≡ length m₀
+      → length w₃ ≡ length w₀ → Carried G After b (joined join Item) k t at m₀ w₀ r₀ m₃ w₃ r
   loop-joins C l v = record {
     from = omega (arith, C .from, I .from, e);
     within = omega (arith, I .within, e);

@@ -1,11 +1,11 @@
 -- A test or an assignment is built after its `x`, from what is read of its field and its value.
-use mathlib.Core.Path.{_≡_, refl, sym, ap, _∙_, subst, subst₂}
+use mathlib.Core.Path.{_≡_, refl, sym, ap, _∙_, subst₂}
 use mathlib.Core.List.{List, [], _∷_, _++_, append-assoc}
-use mathlib.Core.Bool.{Bool, true, false}
-use Prim.Native.Nat.{ℕ, _+_, _≤_}
+use mathlib.Core.Bool.{Bool}
+use Prim.Native.Nat.{ℕ, _+_}
 use native.Mathlib.Omega.{arith}
 use lib.Dec.{eqb}
-use lib.ListN.{length, getD, drop}
+use lib.ListN.{getD, drop}
 use Rattle.nodes.specs.Store.{rel}
 use Rattle.nodes.specs.Operations.{test, assign}
 use Rattle.nodes.specs.Policies.{Policy, tests, assigns, policy-program}
@@ -13,8 +13,7 @@ use Rattle.memory.specs.Arena.{Performs}
 use Rattle.memory.specs.declared.Arena.{Arena}
 use Rattle.texts.specs.Grammar.{Field, Bit, b-zero, b-one, Atom, a-zero, a-one, a-test, a-assign, a-neg, a-paren}
 use Rattle.policies.specs.Items.{Past, ReadsNumber}
-use Rattle.policies.specs.Building.{Named, BuildsPart, Builds, after-atom}
-use Rattle.policies.specs.declared.build.Built.{Built}
+use Rattle.policies.specs.Building.{built, Named, BuildsPart, Builds, after-atom}
 use Rattle.policies.specs.declared.items.Number.{Number}
 use Rattle.policies.proofs.Suffixes.{first-is, next}
 
@@ -36,9 +35,6 @@ after-name t at rest (a-assign {c = c} {f = f} F B) e h =
 bit-is : {c : ℕ} {v : Bool} → Bit c v → eqb c 49 ≡ v
 bit-is b-zero = refl
 bit-is b-one = refl
-
-abbrev built : Arena → ℕ → Built
-built a e = record { made = a; end = e }
 
 module _ {k : ℕ} {t : List ℕ} {at : ℕ} {s : Arena} {m m′ w w′ : List ℕ} {f : Number} {value : Bool} {r : Arena} (F : ReadsNumber t at f) where
   -- the field, `=` and the value

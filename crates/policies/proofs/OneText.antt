@@ -20,19 +20,20 @@ use Rattle.judging.proofs.Decide.{store-says}
 use Rattle.store.specs.Calls.{set-places, rel-places}
 use Rattle.store.proofs.Encoding.{decode-encode}
 use Rattle.texts.specs.Grammar.{Sum}
-use Rattle.policies.proofs.Stub.{one-tree}
-use Rattle.policies.specs.Lists.{KeepsRules, text-relates}
+use Rattle.texts.proofs.Says.{tree-is}
+use Rattle.policies.specs.Lists.{Keeps, policy-of, text-relates}
 use Rattle.policies.specs.Outcome.{text-verdict, builds, policy-step}
 use Rattle.policies.specs.declared.PolicyAnswer.the-variants.{Handle}
 use Rattle.policies.proofs.TextOutcomes.{not-handle, accepted-ran, Kept, builds-kept, policy-judged, policy-not-store}
 
 -- a text has one policy, so what it relates is what that policy means
 pub tree-relates : (k : ℕ) (t : List ℕ) (x : Policy) → Sum 32 t x → Same k (meaning k x) (text-relates k t)
-tree-relates k t x s p q P Q = (λ r. (x, s, r), λ r. subst (λ y. meaning k y p q) (one-tree (r .1) s) (r .2))
+tree-relates k t x s p q P Q = (λ r. (x, s, r), λ r. subst (λ y. meaning k y p q) (sym (tree-is t (r .0) (r .1)) ∙ tree-is t x s) (r .2))
 
 -- what the program of a text that keeps the rules leaves
-pub kept-does : {k : ℕ} {t : List ℕ} {S : Nodes} {p : Prog} → WellFormed k S → (K : Kept k t p) → Does k S p (Relates k (meaning k (K .rules .tree)))
-kept-does {k} {S = S} F K = subst (λ p. Does k S p (Relates k (meaning k (K .rules .tree)))) (K .program) (policy-does (K .rules .tree) (K .rules .fields) F)
+pub kept-does : {k : ℕ} {t : List ℕ} {S : Nodes} {p : Prog} → WellFormed k S → (K : Kept k t p) → Does k S p (Relates k (meaning k (policy-of (K .keeps))))
+kept-does {k} {S = S} F K =
+    subst (λ p. Does k S p (Relates k (meaning k (policy-of (K .keeps))))) (K .program) (policy-does (policy-of (K .keeps)) (K .keeps .rules .below) F)
 
 -- only a store accepts a text
 accepted-store : (t : List ℕ) (M : Memories) (h : ℕ) → policy-step t M .answer ≡ Handle h → IsStore M
@@ -43,7 +44,7 @@ accepted-store t M h e = by-test (λ b. store? M ≡ b → IsStore M) (store? M)
 -- THE CLAIM, and what it rests on
 pub record TextRight (t : List ℕ) (M : Memories) (h : ℕ) : Type 0 where
   pub store : IsStore M
-  pub keeps : KeepsRules (fields M) t
+  pub keeps : Keeps (fields M) t
   pub relates : Relates (fields M) (text-relates (fields M) t) (decode (policy-step t M .state)) h
 
 pub text-right : (t : List ℕ) (M : Memories) (h : ℕ) → policy-step t M .answer ≡ Handle h → TextRight t M h
@@ -57,7 +58,7 @@ text-right t M h e =
     let at : decode (policy-step t M .state) ≡ run (R .program) (decode M) .store
     = ap (λ u. decode (u .state)) j ∙ ap decode (R .state) ∙ decode-encode M k (A .formed) in record {
       store = s;
-      keeps = K .rules;
+      keeps = K .keeps;
       relates = subst (λ S. Relates k (text-relates k t) S h) (sym at) (subst (Relates k (text-relates k t) (run (R .program) (decode M) .store)) (R .value)
-          (relates-iff (tree-relates k t (K .rules .tree) (K .rules .follows)) (A .post)));
+          (relates-iff (tree-relates k t (policy-of (K .keeps)) (K .keeps .rules .follows)) (A .post)));
     }

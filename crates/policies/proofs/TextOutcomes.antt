@@ -21,10 +21,11 @@ use Rattle.store.specs.Outcome.{runs, Told, told, concludes}
 use Rattle.store.specs.declared.Answer as store
 use Rattle.store.specs.declared.Refusal.{Refusal}
 use Rattle.store.specs.declared.Refusal.the-variants.{NotStore, TooLong, UsedUp}
-use Rattle.texts.specs.Reading.{reading, tree}
+use Rattle.texts.specs.Answers.{tree}
+use Rattle.texts.specs.Reading.{reading}
 use Rattle.texts.specs.declared.Reading.{Reading}
-use Rattle.policies.proofs.Stub.{policy-read, reads-policy}
-use Rattle.policies.specs.Lists.{KeepsRules, retold}
+use Rattle.texts.proofs.Says.{keeps-rules, tree-is}
+use Rattle.policies.specs.Lists.{Keeps, policy-of, retold}
 use Rattle.policies.specs.Outcome.{TextVerdict, refuses, builds, of-reading, short?, text-verdict, text-concludes, policy-step}
 use Rattle.policies.specs.declared.PolicyAnswer.{PolicyAnswer}
 use Rattle.policies.specs.declared.PolicyAnswer.the-variants.{Handle, Declined}
@@ -75,24 +76,24 @@ module _ (k : ℕ) (t : List ℕ) where
 
   -- what a text's verdict runs is the program of its policy
   pub record Kept (p : Prog) : Type 0 where
-    pub rules : KeepsRules k t
-    pub program : policy-program k (rules .tree) ≡ p
+    pub keeps : Keeps k t
+    pub program : policy-program k (policy-of keeps) ≡ p
 
   pub builds-kept : (p : Prog) → text-verdict t k ≡ builds p → Kept p
   unfolding text-verdict
   builds-kept p = by-test (λ b. short? t ≡ b → pick b (of-reading k t (reading k t)) (refuses (Store TooLong)) ≡ builds p → Kept p) (short? t)
       (λ s u e. let q = read-builds p (reading k t) refl e in
-      let y = policy-read k t (q .0) in record {
-        rules = record { short = leb→le (length t) 4096 (subst T (sym u) tt); tree = tree t; follows = y .0; fields = y .1; negations = y .2 };
-        program = q .1;
+      let r = keeps-rules k t .0 (q .0) in record {
+        keeps = record { short = leb→le (length t) 4096 (subst T (sym u) tt); rules = r };
+        program = ap (policy-program k) (sym (tree-is t (r .policy) (r .follows))) ∙ q .1;
       })
       (λ s u e. absurd (not-builds e)) refl
 
-  pub kept-builds : (r : KeepsRules k t) → text-verdict t k ≡ builds (policy-program k (r .tree))
+  pub kept-builds : (r : Keeps k t) → text-verdict t k ≡ builds (policy-program k (policy-of r))
   unfolding text-verdict of-reading
-  kept-builds r = let y = reads-policy k t (r .tree) (r .follows) (r .fields) (r .negations) in
-      (λ i. pick (le-leb (length t) 4096 (r .short) i) (of-reading k t (y .0 i)) (refuses (Store TooLong)))
-      ∙ ap (λ x. builds (policy-program k x)) (y .1)
+  kept-builds r = let e = keeps-rules k t .1 (r .rules) in
+      (λ i. pick (le-leb (length t) 4096 (r .short) i) (of-reading k t (e i)) (refuses (Store TooLong)))
+      ∙ ap (λ x. builds (policy-program k x)) (tree-is t (policy-of r) (r .rules .follows))
 
 -- ON A STORE the verdict is the text's; the first refusal covers both memories
 module _ (t : List ℕ) (M : Memories) where

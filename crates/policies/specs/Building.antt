@@ -10,6 +10,9 @@ use Rattle.memory.specs.declared.Arena.{Arena}
 use Rattle.texts.specs.Grammar.{Atom, Sum}
 use Rattle.policies.specs.declared.build.Built.{Built}
 
+abbrev pub built : Arena → ℕ → Built
+built s e = record { made = s; end = e }
+
 -- a rank of the grammar: which bytes are such a part, and of which policy
 abbrev pub Rank : Type 1
 Rank = ℕ → List ℕ → Policy → Type 0

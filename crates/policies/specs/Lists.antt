@@ -1,6 +1,5 @@
 -- DEMAND 3: lists of all 43 calls from an accepted `new`, and what is claimed of the texts accepted in them; 01, "A list of calls, and its count".
 use mathlib.Core.Path.{_≡_}
-use mathlib.Core.Bool.{true}
 use mathlib.Core.List.{List, [], _∷_, _++_}
 use mathlib.Core.Logic.{_↔_}
 use Prim.Native.Nat.{ℕ, _≤_}
@@ -8,7 +7,7 @@ use lib.ListN.{length}
 use Rattle.nodes.specs.Meaning.{Rel, Relates}
 use Rattle.nodes.specs.Packets.{Packet}
 use Rattle.nodes.specs.Places.{fits-places}
-use Rattle.nodes.specs.Policies.{Policy, meaning, fields-below?, negates-predicates?, policy-program}
+use Rattle.nodes.specs.Policies.{Policy, meaning, policy-program}
 use Rattle.nodes.specs.Programs.{Ran, run}
 use Rattle.nodes.specs.Store.{pick}
 use Rattle.judging.specs.Memory.{Memories, decode}
@@ -18,6 +17,7 @@ use Rattle.store.specs.Outcome.{Told, told}
 use Rattle.store.specs.PlainStore.{Plain, plain-step}
 use Rattle.store.specs.declared.Answer.{Answer}
 use Rattle.store.specs.declared.Refusal.the-variants.{UsedUp}
+use Rattle.texts.specs.Answers.{KeepsRules}
 use Rattle.texts.specs.Grammar.{Sum}
 use Rattle.policies.specs.Outcome.{policy-step, plain-policy-step}
 use Rattle.policies.specs.declared.PolicyAnswer.{PolicyAnswer}
@@ -62,12 +62,13 @@ SamePairs k t u = (p q : List ℕ) → Packet k p → Packet k q → text-relate
 
 -- 01: "A text keeps the rules when it has at most 4,096 bytes, follows the grammar, nests no atom deeper than 32, names only fields
 -- below k and has neither `:=` nor `*` in the operand of a `!`."
-pub record KeepsRules (k : ℕ) (t : List ℕ) : Type 0 where
+pub record Keeps (k : ℕ) (t : List ℕ) : Type 0 where
   pub short : length t ≤ 4096
-  pub tree : Policy
-  pub follows : Sum 32 t tree
-  pub fields : fields-below? k tree ≡ true
-  pub negations : negates-predicates? tree ≡ true
+  pub rules : KeepsRules k t
+
+-- the policy that such a text is of
+abbrev pub policy-of : {k : ℕ} {t : List ℕ} → Keeps k t → Policy
+policy-of r = r .rules .policy
 
 -- a list of calls after `new k` on the memories M₀
 module _ (k : ℕ) (M₀ : Memories) where
@@ -92,11 +93,11 @@ module _ (k : ℕ) (M₀ : Memories) where
     pub list : ListRight all-calls k M₀ cs
     -- the handle of an accepted text relates, after the list, exactly the text's pairs; only a text that keeps the rules is accepted
     pub relates : (t : List ℕ) (h : ℕ) → AcceptedIn cs t h → Relates k (text-relates k t) (decode (after-new all-calls k M₀ cs .state)) h
-    pub keeps : (t : List ℕ) (h : ℕ) → AcceptedIn cs t h → KeepsRules k t
+    pub keeps : (t : List ℕ) (h : ℕ) → AcceptedIn cs t h → Keeps k t
     -- two accepted texts have one handle exactly when they relate the same pairs
     pub one-handle : (t u : List ℕ) (g h : ℕ) → AcceptedIn cs t g → AcceptedIn cs u h → (g ≡ h) ↔ SamePairs k t u
     -- a text that keeps the rules is refused exactly when the plain store ends longer than the places, and then with 6;
     -- else it has the handle that the plain store gives it
-    pub refused : (t : List ℕ) (before later : List AnyCall) → cs ≡ before ++ (policy t ∷ later) → (r : KeepsRules k t)
-        → answer-after before t ≡ pick (fits-places (set-places M₀) (rel-places M₀) (plain-run before (r .tree) .store))
-        (Handle (plain-run before (r .tree) .value)) (Declined (Store UsedUp))
+    pub refused : (t : List ℕ) (before later : List AnyCall) → cs ≡ before ++ (policy t ∷ later) → (r : Keeps k t)
+        → answer-after before t ≡ pick (fits-places (set-places M₀) (rel-places M₀) (plain-run before (policy-of r) .store))
+        (Handle (plain-run before (policy-of r) .value)) (Declined (Store UsedUp))

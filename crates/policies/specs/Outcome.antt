@@ -14,7 +14,8 @@ use Rattle.store.specs.Calls.{set-places, rel-places}
 use Rattle.store.specs.Outcome.{Told, told}
 use Rattle.store.specs.PlainStore.{Plain, plain-store}
 use Rattle.store.specs.declared.Refusal.the-variants.{NotStore, TooLong, UsedUp}
-use Rattle.texts.specs.Reading.{reading, tree}
+use Rattle.texts.specs.Answers.{tree}
+use Rattle.texts.specs.Reading.{reading}
 use Rattle.texts.specs.declared.Reading.{Reading}
 use Rattle.texts.specs.declared.Reading.the-variants as read
 use Rattle.policies.specs.declared.Fault.the-variants.{NotPolicy, NotPredicate, TooDeep, NoField}

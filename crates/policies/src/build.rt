@@ -21,7 +21,8 @@ fn named(
     k: u8,
 ) -> Built
     requires { ⌜ at ≤ length (now text) ⌝ }
-    ensures { λ r. ⌜ Builds Named after-atom k (now (text .entry)) at s (now (nodes .entry)) (now (nodes .exit)) (now (work .entry)) (now (work .exit)) r ⌝ }
+    ensures { λ r. ⌜ Builds Named after-atom k (now (text .entry)) at s
+        (now (nodes .entry)) (now (nodes .exit)) (now (work .entry)) (now (work .exit)) r ⌝ }
 {
     let field = crate::items::field(text, at);
     let sign = crate::items::byte(text, field.end);
@@ -30,19 +31,13 @@ fn named(
         let value = crate::items::bit(text, next);
         let end = crate::items::past(text, next);
         let r = relations::fields::test(nodes, work, s, k, field.value, value);
-        return Built {
-            made: r,
-            end: end,
-        };
+        return Built { made: r, end: end };
     }
     let last = crate::items::past(text, next);
     let value = crate::items::bit(text, last);
     let end = crate::items::past(text, last);
     let r = relations::fields::assign(nodes, work, s, k, field.value, value);
-    Built {
-        made: r,
-        end: end,
-    }
+    Built { made: r, end: end }
 }
 
 // `0`, `1`, a test or an assignment.
@@ -55,23 +50,18 @@ fn leaf(
     k: u8,
 ) -> Built
     requires { ⌜ (at ≤ length (now text)) × (¬ (getD (now text) at 0 ≡ 33)) × (¬ (getD (now text) at 0 ≡ 40)) ⌝ }
-    ensures { λ r. ⌜ Builds Atom after-atom k (now (text .entry)) at s (now (nodes .entry)) (now (nodes .exit)) (now (work .entry)) (now (work .exit)) r ⌝ }
+    ensures { λ r. ⌜ Builds Atom after-atom k (now (text .entry)) at s
+        (now (nodes .entry)) (now (nodes .exit)) (now (work .entry)) (now (work .exit)) r ⌝ }
 {
     let b = crate::items::byte(text, at);
     let next = crate::items::past(text, at);
     if b == b'0' {
         let r = relations::zero_at_depth(nodes, work, s, k);
-        return Built {
-            made: r,
-            end: next,
-        };
+        return Built { made: r, end: next };
     }
     if b == b'1' {
         let r = relations::one_at_depth(nodes, work, s, k);
-        return Built {
-            made: r,
-            end: next,
-        };
+        return Built { made: r, end: next };
     }
     named(text, next, nodes, work, s, k)
 }
@@ -86,7 +76,8 @@ fn atom(
     k: u8,
 ) -> Built
     requires { ⌜ at ≤ length (now text) ⌝ }
-    ensures { λ r. ⌜ Builds Atom after-atom k (now (text .entry)) at s (now (nodes .entry)) (now (nodes .exit)) (now (work .entry)) (now (work .exit)) r ⌝ }
+    ensures { λ r. ⌜ Builds Atom after-atom k (now (text .entry)) at s
+        (now (nodes .entry)) (now (nodes .exit)) (now (work .entry)) (now (work .exit)) r ⌝ }
 {
     let b = crate::items::byte(text, at);
     if b == b'!' {
@@ -121,7 +112,8 @@ fn starred(
     k: u8,
 ) -> Built
     requires { ⌜ at ≤ length (now text) ⌝ }
-    ensures { λ r. ⌜ Builds Starred after-starred k (now (text .entry)) at s (now (nodes .entry)) (now (nodes .exit)) (now (work .entry)) (now (work .exit)) r ⌝ }
+    ensures { λ r. ⌜ Builds Starred after-starred k (now (text .entry)) at s
+        (now (nodes .entry)) (now (nodes .exit)) (now (work .entry)) (now (work .exit)) r ⌝ }
 {
     let p = atom(text, at, nodes, work, s, k);
     let mut made = p.made;
@@ -146,7 +138,8 @@ fn product(
     k: u8,
 ) -> Built
     requires { ⌜ at ≤ length (now text) ⌝ }
-    ensures { λ r. ⌜ Builds Product after-product k (now (text .entry)) at s (now (nodes .entry)) (now (nodes .exit)) (now (work .entry)) (now (work .exit)) r ⌝ }
+    ensures { λ r. ⌜ Builds Product after-product k (now (text .entry)) at s
+        (now (nodes .entry)) (now (nodes .exit)) (now (work .entry)) (now (work .exit)) r ⌝ }
 {
     let p = starred(text, at, nodes, work, s, k);
     let mut made = p.made;
@@ -173,7 +166,8 @@ fn sum(
     k: u8,
 ) -> Built
     requires { ⌜ at ≤ length (now text) ⌝ }
-    ensures { λ r. ⌜ Builds Sum after-sum k (now (text .entry)) at s (now (nodes .entry)) (now (nodes .exit)) (now (work .entry)) (now (work .exit)) r ⌝ }
+    ensures { λ r. ⌜ Builds Sum after-sum k (now (text .entry)) at s
+        (now (nodes .entry)) (now (nodes .exit)) (now (work .entry)) (now (work .exit)) r ⌝ }
 {
     let p = product(text, at, nodes, work, s, k);
     let mut made = p.made;
@@ -198,7 +192,8 @@ pub fn build(
     s: memory::Arena,
     k: u8,
 ) -> memory::Arena
-    ensures { λ r. ⌜ BuildsText k (now (text .entry)) s (now (nodes .entry)) (now (nodes .exit)) (now (work .entry)) (now (work .exit)) r ⌝ }
+    ensures { λ r. ⌜ BuildsText k (now (text .entry)) s
+        (now (nodes .entry)) (now (nodes .exit)) (now (work .entry)) (now (work .exit)) r ⌝ }
 {
     let p = sum(text, 0, nodes, work, s, k);
     let made = p.made;

@@ -12,7 +12,7 @@ pub struct Number {
 }
 
 // The byte at an offset, 0 where the text has ended.
-pub fn byte(text: &[u8], at: usize) -> u8
+pub(crate) fn byte(text: &[u8], at: usize) -> u8
     ensures { λ r. ⌜ (r ≡ getD (now (text .entry)) at 0) × (0 < r → at < length (now (text .entry))) ⌝ }
 {
     if at < text.len() {
@@ -22,7 +22,7 @@ pub fn byte(text: &[u8], at: usize) -> u8
 }
 
 // The offset after this one, or the text's length.
-pub fn past(text: &[u8], at: usize) -> usize
+pub(crate) fn past(text: &[u8], at: usize) -> usize
     requires { ⌜ at ≤ length (now text) ⌝ }
     ensures { λ r. ⌜ Past (now (text .entry)) at r ⌝ }
 {
@@ -33,16 +33,13 @@ pub fn past(text: &[u8], at: usize) -> usize
 }
 
 // A field: one or two digits.
-pub fn field(text: &[u8], at: usize) -> Number
+pub(crate) fn field(text: &[u8], at: usize) -> Number
     requires { ⌜ at ≤ length (now text) ⌝ }
     ensures { λ r. ⌜ ReadsNumber (now (text .entry)) at r ⌝ }
 {
     let a = byte(text, at);
     if !texts::is_digit(a) {
-        return Number {
-            value: 0,
-            end: at,
-        };
+        return Number { value: 0, end: at };
     }
     let tens = a - b'0';
     let next = at + 1;
@@ -63,7 +60,7 @@ pub fn field(text: &[u8], at: usize) -> Number
 }
 
 // The value: whether `1` stands here.
-pub fn bit(text: &[u8], at: usize) -> bool
+pub(crate) fn bit(text: &[u8], at: usize) -> bool
     ensures { λ r. ⌜ r ≡ eqb (getD (now (text .entry)) at 0) 49 ⌝ }
 {
     let b = byte(text, at);

@@ -67,10 +67,16 @@ fn judged(relations: &mut [u32], sets: &[u32], work: &mut [u32], text: &[u8]) ->
     let read = texts::read(text, relations[0]);
     match read {
         texts::Reading::Policy => built(relations, sets, work, text),
-        texts::Reading::NotPolicy(i) => PolicyAnswer::Declined(PolicyRefusal::At(Fault::NotPolicy, i)),
+        texts::Reading::NotPolicy(i) => PolicyAnswer::Declined(PolicyRefusal::At(
+            Fault::NotPolicy,
+            i,
+        )),
         texts::Reading::TooDeep(i) => PolicyAnswer::Declined(PolicyRefusal::At(Fault::TooDeep, i)),
         texts::Reading::NoField(i) => PolicyAnswer::Declined(PolicyRefusal::At(Fault::NoField, i)),
-        texts::Reading::NotPredicate(i) => PolicyAnswer::Declined(PolicyRefusal::At(Fault::NotPredicate, i)),
+        texts::Reading::NotPredicate(i) => PolicyAnswer::Declined(PolicyRefusal::At(
+            Fault::NotPredicate,
+            i,
+        )),
     }
 }
 

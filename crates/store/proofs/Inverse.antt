@@ -58,4 +58,5 @@ module _ (M : Memories) (p r : ℕ) (s : IsStore M) (e : step (filter-call (Ibwd
       = level-is rel (decode M₁) (fields M₁) l r (subst (λ k. l ≤ k) (sym (step-fields s (filter-call (Ibwd p)) (λ x. x))) (t .0)) (A .held) in
       domain-of (step-store s₁ (image-call (Bwd r)) .formed)
       (ext-trans (step-extends s (filter-call (Ibwd p)) (λ x. x)) (step-extends s₁ (image-call (Bwd r)) (λ x. x)))
-      (t .1) A (subst (λ l. Den set l (Domain l (relates (decode M₁) r)) (decode (step (image-call (Bwd r)) M₁ .state)) h) q (image-call-means (Bwd r) M₁ h s₁ f))
+      (t .1) A (subst (λ l. Den set l (Domain l (relates (decode M₁) r)) (decode (step (image-call (Bwd r)) M₁ .state)) h) q
+      (image-call-means (Bwd r) M₁ h s₁ f))

@@ -153,7 +153,8 @@ module _ {M₀ M : Memories} {P : Plain} (A : Matches M₀ M P) where
       (leb→le k 32 (subst T (sym (t .0)) tt), subst (λ p. WellFormed k (run p blank .store)) (ap program-in (t .1)) (new-does k .after .formed))))
 
   -- a call whose verdict on a store is v
-  pub verdict-right : (c : Call) (v : ℕ → Store → Verdict) → Sound v → step c M ≡ on-store v M → plain-step m n c P ≡ on-lists m n v P → CallRight store-calls M₀ M P c
+  pub verdict-right : (c : Call) (v : ℕ → Store → Verdict) → Sound v → step c M ≡ on-store v M → plain-step m n c P ≡ on-lists m n v P
+      → CallRight store-calls M₀ M P c
   verdict-right c v s e f = record {
     alike = subst (λ t. Alike M₀ t (plain-step m n c P)) (sym e) (subst (Alike M₀ (on-store v M)) (sym f) (verdict-alike v s));
     grown = λ r. subst (λ u. Grown P (u .state)) (sym f) (verdict-grown m n v P);

@@ -1,0 +1,13 @@
+pub mod Sound
+pub mod Complete
+pub mod Offsets
+pub mod Moves
+pub mod Passes
+pub mod Order
+pub mod Clean
+pub mod Counts
+pub mod Begins
+pub mod Says
+pub mod Worked
+pub mod Searches
+pub mod Only

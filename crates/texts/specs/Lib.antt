@@ -1,3 +1,5 @@
 pub mod Grammar
 pub mod Machine
+pub mod Posts
 pub mod Reading
+pub mod Answers

@@ -1,10 +1,9 @@
 -- What a text reads as for k fields, from its bytes, in the order of 01, "What each operation declines, in order": "7 .. or 9 ..;
 -- 5, at the first `x` whose N is k or more; 8, at the first offending `!`".
-use Prim.Native.Nat.{ℕ, zero, suc, _+_, _-_, _*_}
+use Prim.Native.Nat.{ℕ, _+_, _-_, _*_}
 use mathlib.Core.List.{List, [], _∷_}
-use mathlib.Core.Bool.{Bool, true, false, cond, not, _&&_, _||_}
+use mathlib.Core.Bool.{Bool, true, false, cond, not, _&&_}
 use lib.Dec.{leb, eqb}
-use Rattle.nodes.specs.Policies.{Policy}
 use Rattle.texts.specs.Machine.{Out, accept, bad, deep, digit?, reads}
 use Rattle.texts.specs.declared.Found.{Found}
 use Rattle.texts.specs.declared.Found.the-variants.{Nowhere, At}
@@ -62,13 +61,4 @@ reading-of k t (deep i) = Reading.TooDeep i
 reading-of k t (accept p) = rules (first (no-field? k) 0 t) (first offends? 0 t)
 
 unfoldable pub reading : ℕ → List ℕ → Reading
-reading k t = Reading.Policy
-
--- the policy of a text that follows the grammar
-unfoldable pub tree-of : Out → Policy
-tree-of (accept p) = p
-tree-of (bad i) = Policy.fail
-tree-of (deep i) = Policy.fail
-
-unfoldable pub tree : List ℕ → Policy
-tree t = tree-of (reads t)
+reading k t = reading-of k t (reads t)

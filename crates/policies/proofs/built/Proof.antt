@@ -19,36 +19,53 @@ slice-read-wide c =
 
 sub-build : tie.Need-sub-build
 sub-build c =
-    let h = c .before .before .before .before .before .before .before .pre .0 .store .room rel .headed in omega arith
+    let c7 = c .before .before .before .before .before .before .before in
+    let h = c7 .pre .0 .store .room rel .headed in omega arith
 
 part-build-start : tie.Need-part-build-start
 part-build-start c =
-    let h = c .before .before .before .before .before .before .before .pre .0 .store .room rel .headed in omega arith
+    let c7 = c .before .before .before .before .before .before .before in
+    let h = c7 .pre .0 .store .room rel .headed in omega arith
 
 narrow-requires : tie.Need-narrow-requires
 narrow-requires c κs =
-    let h = c .before .before .before .before .before .before .before .before .before .pre .0 .store .few in omega arith
+    let c9 = c .before .before .before .before .before .before .before .before .before in
+    let h = c9 .pre .0 .store .few in omega arith
 
 commit-requires : tie.Need-commit-requires
 commit-requires c κs =
-    let a = c .before .before .before .before .before .before .before .before .before .before .before .before .before .before .before .before .args in
-    let y = c .before .before .before .before .before .before .before .before .before .before .before .before .before .before .before .before .pre in
-    let t = built-within (a .text .now) (memories (a .relations .now) (a .sets .now)) (a .work .now) (y .0) _ (c .before .before .before .before .before .before .before .before .before .wide .ensures)
-    (y .1) (y .2) _ (c .before .before .before .before .before .before .narrow .ensures) _ _ _ (c .before .before .before .before .before .build .ensures) in (omega arith, t .0, t .1, t .2)
+    let c5 = c .before .before .before .before .before in
+    let c6 = c5 .before in
+    let c9 = c6 .before .before .before in
+    let c16 = c9 .before .before .before .before .before .before .before in
+    let a = c16 .args in
+    let y = c16 .pre in
+    let t = built-within (a .text .now) (memories (a .relations .now) (a .sets .now)) (a .work .now) (y .0) _ (c9 .wide .ensures)
+    (y .1) (y .2) _ (c6 .narrow .ensures) _ _ _ (c5 .build .ensures) in (omega arith, t .0, t .1, t .2)
 
 returns : tie.Need-returns
 returns c =
-    let a = c .before .before .before .before .before .before .before .before .before .before .before .before .before .before .before .before .before .before .before .before .args in
-    let y = c .before .before .before .before .before .before .before .before .before .before .before .before .before .before .before .before .before .before .before .before .pre in
-    built-ran (a .text .now) (memories (a .relations .now) (a .sets .now)) (a .work .now) (y .0) _ (c .before .before .before .before .before .before .before .before .before .before .before .before .before .wide .ensures)
-    (y .1) (y .2) _ (c .before .before .before .before .before .before .before .before .before .before .narrow .ensures) _ _ _ (c .before .before .before .before .before .before .before .before .before .build .ensures) _ _ (fitted (c .before .before .before .commit .ensures) (c .if1 .taken))
+    let c3 = c .before .before .before in
+    let c9 = c3 .before .before .before .before .before .before in
+    let c10 = c9 .before in
+    let c13 = c10 .before .before .before in
+    let c20 = c13 .before .before .before .before .before .before .before in
+    let a = c20 .args in
+    let y = c20 .pre in
+    built-ran (a .text .now) (memories (a .relations .now) (a .sets .now)) (a .work .now) (y .0) _ (c13 .wide .ensures)
+    (y .1) (y .2) _ (c10 .narrow .ensures) _ _ _ (c9 .build .ensures) _ _ (fitted (c3 .commit .ensures) (c .if1 .taken))
 
 returns-2 : tie.Need-returns-2
 returns-2 c =
-    let a = c .before .before .before .before .before .before .before .before .before .before .before .before .before .before .before .before .before .before .before .before .args in
-    let y = c .before .before .before .before .before .before .before .before .before .before .before .before .before .before .before .before .before .before .before .before .pre in
-    built-ran (a .text .now) (memories (a .relations .now) (a .sets .now)) (a .work .now) (y .0) _ (c .before .before .before .before .before .before .before .before .before .before .before .before .before .wide .ensures)
-    (y .1) (y .2) _ (c .before .before .before .before .before .before .before .before .before .before .narrow .ensures) _ _ _ (c .before .before .before .before .before .before .before .before .before .build .ensures) _ _ (full (c .before .before .before .commit .ensures) (c .if1 .left))
+    let c3 = c .before .before .before in
+    let c9 = c3 .before .before .before .before .before .before in
+    let c10 = c9 .before in
+    let c13 = c10 .before .before .before in
+    let c20 = c13 .before .before .before .before .before .before .before in
+    let a = c20 .args in
+    let y = c20 .pre in
+    built-ran (a .text .now) (memories (a .relations .now) (a .sets .now)) (a .work .now) (y .0) _ (c13 .wide .ensures)
+    (y .1) (y .2) _ (c10 .narrow .ensures) _ _ _ (c9 .build .ensures) _ _ (full (c3 .commit .ensures) (c .if1 .left))
 
 pub built-spec : {M : Type 1} → statement M
 built-spec =

@@ -10,16 +10,21 @@ use Rattle.policies.proofs.policy.Tie as tie
 
 returns : tie.Need-returns
 returns c =
-    let t = c .before .before .before .before .before .before .before .is-store .ensures in
-    (policy-not-store _ _ (sym (t .says) ∙ not-true _ (c .before .before .before .before .if1 .taken)), c .before .before .clear .ensures ∙ ap (λ n. replicate n 0) (t .wide))
+    let c4 = c .before .before .before .before in
+    let c7 = c4 .before .before .before in
+    let t = c7 .is-store .ensures in
+    (policy-not-store _ _ (sym (t .says) ∙ not-true _ (c4 .if1 .taken)), c .before .before .clear .ensures ∙ ap (λ n. replicate n 0) (t .wide))
 
 judged-requires : tie.Need-judged-requires
 judged-requires c κs =
-    judged-ready (c .before .before .before .before .before .is-store .ensures) (not-false _ (c .before .before .if1 .left))
+    let c5 = c .before .before .before .before .before in
+    judged-ready (c5 .is-store .ensures) (not-false _ (c .before .before .if1 .left))
 
 returns-2 : tie.Need-returns-2
 returns-2 c =
-    (c .before .before .before .before .before .before .before .before .judged .ensures, c .before .before .clear2 .ensures ∙ ap (λ n. replicate n 0) (c .before .before .before .before .before .before .before .before .judged .kept .1 .1 .0 ∙ c .before .before .before .before .before .before .before .before .before .before .before .before .before .before .is-store .ensures .wide))
+    let c8 = c .before .before .before .before .before .before .before .before in
+    let c14 = c8 .before .before .before .before .before .before in
+    (c8 .judged .ensures, c .before .before .clear2 .ensures ∙ ap (λ n. replicate n 0) (c8 .judged .kept .1 .1 .0 ∙ c14 .is-store .ensures .wide))
 
 pub policy-spec : {M : Type 1} → statement M
 policy-spec =

@@ -1,9 +1,7 @@
-use borrow.Author.Needs.{needs}
+-- `is_digit` is the test `digit?`: by the two comparisons.
 use borrow.Author.Tests.{le-leb, lt-leb}
 use Rattle.texts.proofs.is_digit.Statement.{statement}
 use Rattle.texts.proofs.is_digit.Tie as tie
-use Rattle.texts.proofs.is_digit.Reads as reads
-use Rattle.texts.proofs.is_digit.Lts as lts
 
 returns : tie.Need-returns
 returns c = simp (le-leb _ _ (c .if1 .taken))

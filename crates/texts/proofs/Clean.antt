@@ -1,0 +1,177 @@
+-- The operand of a `!` has neither `:` nor `*` exactly when its policy is a predicate; by induction on derivations.
+use mathlib.Core.Path.{_≡_, refl, sym, ap, _∙_}
+use Prim.Native.Nat.{ℕ, suc, _≤_, _<_}
+use native.Mathlib.Numerals.{add-one}
+use native.Mathlib.Omega.{arith}
+use mathlib.Core.List.{List, [], _∷_, _++_, append-assoc}
+use mathlib.Core.Bool.{Bool, true, false, cond, _&&_, and-true, and-false, and-assoc}
+use lib.Dec.{eqb}
+use borrow.Author.Tests.{ne-eqb}
+use Rattle.nodes.specs.Policies.{Policy, predicate?}
+use Rattle.texts.specs.Grammar.{Field, f-zero, f-one, f-two, Bit, b-zero, b-one}
+use Rattle.texts.specs.Grammar.{Atom, a-zero, a-one, a-test, a-assign, a-neg, a-paren, s-atom, s-star}
+use Rattle.texts.specs.Grammar.{p-one, p-seq, u-one, u-plus}
+use Rattle.texts.specs.Reading.{test?, open-after, clean-inside?, clean?}
+
+-- one byte inside a parenthesis
+inside-byte : (b : ℕ) (s : List ℕ) (n : ℕ)
+    → clean-inside? (b ∷ s) (suc n) ≡ cond (eqb b 58) false (cond (eqb b 42) false (clean-inside? s (open-after b (suc n))))
+unfolding clean-inside?
+inside-byte b s n = simp (ne-eqb (suc n) 0 (λ e. omega arith))
+
+-- no `:`, `*`, `(` or `)`
+record Plain (b : ℕ) : Type 0 where
+  colon : b ≡ 58 → ⊥
+  star : b ≡ 42 → ⊥
+  opens : b ≡ 40 → ⊥
+  closes : b ≡ 41 → ⊥
+
+digit-plain : (b : ℕ) → 48 ≤ b → b ≤ 57 → Plain b
+digit-plain b h k = record { colon = λ e. omega arith; star = λ e. omega arith; opens = λ e. omega arith; closes = λ e. omega arith }
+
+inside-plain : (b : ℕ) (s : List ℕ) (n : ℕ) → Plain b → clean-inside? (b ∷ s) (suc n) ≡ clean-inside? s (suc n)
+unfolding open-after
+inside-plain b s n p = inside-byte b s n ∙ simp (ne-eqb b 58 (p .colon), ne-eqb b 42 (p .star), ne-eqb b 40 (p .opens), ne-eqb b 41 (p .closes))
+
+inside-open : (s : List ℕ) (n : ℕ) → clean-inside? (40 ∷ s) (suc n) ≡ clean-inside? s (suc (suc n))
+unfolding open-after
+inside-open s n = inside-byte 40 s n ∙ ap (clean-inside? s) (add-one (suc n))
+
+inside-close : (s : List ℕ) (n : ℕ) → clean-inside? (41 ∷ s) (suc n) ≡ clean-inside? s n
+unfolding open-after
+inside-close s n = inside-byte 41 s n ∙ ap (clean-inside? s) (omega arith)
+
+inside-closed : (s : List ℕ) → clean-inside? s 0 ≡ true
+unfolding clean-inside?
+inside-closed [] = refl
+inside-closed (b ∷ s) = refl
+
+bit-plain : {c : ℕ} {v : Bool} → Bit c v → Plain c
+bit-plain b-zero = digit-plain 48 (omega arith) (omega arith)
+bit-plain b-one = digit-plain 49 (omega arith) (omega arith)
+
+-- N
+inside-field : {f : List ℕ} {m : ℕ} (s : List ℕ) (n : ℕ) → Field f m → clean-inside? (f ++ s) (suc n) ≡ clean-inside? s (suc n)
+inside-field s n f-zero = inside-plain 48 s n (digit-plain 48 (omega arith) (omega arith))
+inside-field s n (f-one {a = a} g h) = inside-plain a s n (digit-plain a (omega arith) h)
+inside-field s n (f-two {a = a} {b = b} g h i j) =
+    inside-plain a (b ∷ s) n (digit-plain a (omega arith) h) ∙ inside-plain b s n (digit-plain b i j)
+
+test-digit : (b : ℕ) (s : List ℕ) → 48 ≤ b → b ≤ 57 → test? (b ∷ s) ≡ test? s
+unfolding test?
+test-digit b s h k = simp (ne-eqb b 58 (λ e. omega arith), ne-eqb b 61 (λ e. omega arith))
+
+test-field : {f : List ℕ} {m : ℕ} (s : List ℕ) → Field f m → test? (f ++ s) ≡ test? s
+test-field s f-zero = test-digit 48 s (omega arith) (omega arith)
+test-field s (f-one {a = a} g h) = test-digit a s (omega arith) h
+test-field s (f-two {a = a} {b = b} g h i j) = test-digit a (b ∷ s) (omega arith) h ∙ test-digit b s i j
+
+-- inside a parenthesis, and as an operand
+record Inside (s : List ℕ) (p : Policy) : Type 0 where
+  pub inside : (r : List ℕ) (n : ℕ) → clean-inside? (s ++ r) (suc n) ≡ predicate? p && clean-inside? r (suc n)
+
+record Operand (s : List ℕ) (p : Policy) : Type 0 where
+  pub inside : (r : List ℕ) (n : ℕ) → clean-inside? (s ++ r) (suc n) ≡ predicate? p && clean-inside? r (suc n)
+  pub alone : (r : List ℕ) → clean? (s ++ r) ≡ predicate? p
+
+case-digit : (b : ℕ) (p : Policy) → 48 ≤ b → b ≤ 57 → predicate? p ≡ true → Operand (b ∷ []) p
+unfolding clean?
+case-digit b p h k e = record {
+  inside = λ r n. inside-plain b r n (digit-plain b h k) ∙ simp e;
+  alone = λ r. simp (ne-eqb b 40 (λ z. omega arith), ne-eqb b 120 (λ z. omega arith), ne-eqb b 33 (λ z. omega arith)) (sym e);
+}
+
+other-plain : (b : ℕ) → 57 < b → (b ≡ 58 → ⊥) → Plain b
+other-plain b h k = record { colon = k; star = λ e. omega arith; opens = λ e. omega arith; closes = λ e. omega arith }
+
+case-test : {m c : ℕ} {f : List ℕ} {v : Bool} → Field f m → Bit c v → Operand (120 ∷ (f ++ (61 ∷ c ∷ []))) (Policy.tests m v)
+unfolding clean? predicate? test?
+case-test {c = c} {f = f} g b = record {
+  inside = λ r n.
+      inside-plain 120 ((f ++ (61 ∷ c ∷ [])) ++ r) n (other-plain 120 (omega arith) (λ e. omega arith))
+      ∙ ap (λ (s : List ℕ). clean-inside? s (suc n)) (append-assoc f (61 ∷ c ∷ []) r)
+      ∙ inside-field (61 ∷ c ∷ r) n g
+      ∙ inside-plain 61 (c ∷ r) n (other-plain 61 (omega arith) (λ e. omega arith))
+      ∙ inside-plain c r n (bit-plain b);
+  alone = λ r. ap test? (append-assoc f (61 ∷ c ∷ []) r) ∙ test-field (61 ∷ c ∷ r) g;
+}
+
+case-assign : {m c : ℕ} {f : List ℕ} {v : Bool} → Field f m → Bit c v → Operand (120 ∷ (f ++ (58 ∷ 61 ∷ c ∷ []))) (Policy.assigns m v)
+unfolding clean? predicate? test?
+case-assign {c = c} {f = f} g b = record {
+  inside = λ r n.
+      inside-plain 120 ((f ++ (58 ∷ 61 ∷ c ∷ [])) ++ r) n (other-plain 120 (omega arith) (λ e. omega arith))
+      ∙ ap (λ (s : List ℕ). clean-inside? s (suc n)) (append-assoc f (58 ∷ 61 ∷ c ∷ []) r)
+      ∙ inside-field (58 ∷ 61 ∷ c ∷ r) n g
+      ∙ inside-byte 58 (61 ∷ c ∷ r) n;
+  alone = λ r. ap test? (append-assoc f (58 ∷ 61 ∷ c ∷ []) r) ∙ test-field (58 ∷ 61 ∷ c ∷ r) g;
+}
+
+case-neg : {s : List ℕ} {p : Policy} → Operand s p → Operand (33 ∷ s) (Policy.negates p)
+unfolding clean? predicate? open-after
+case-neg {s = s} a = record { inside = λ r n. inside-byte 33 (s ++ r) n ∙ a .inside r n; alone = λ r. a .alone r }
+
+case-paren : {s : List ℕ} {p : Policy} → Inside s p → Operand (40 ∷ (s ++ (41 ∷ []))) p
+unfolding clean?
+case-paren {s = s} {p = p} a = record {
+  inside = λ r n.
+      inside-open ((s ++ (41 ∷ [])) ++ r) n
+      ∙ ap (λ (w : List ℕ). clean-inside? w (suc (suc n))) (append-assoc s (41 ∷ []) r)
+      ∙ a .inside (41 ∷ r) (suc n)
+      ∙ ap (λ (b : Bool). predicate? p && b) (inside-close r (suc n));
+  alone = λ r.
+      ap (λ (w : List ℕ). clean-inside? w 1) (append-assoc s (41 ∷ []) r)
+      ∙ a .inside (41 ∷ r) 0
+      ∙ ap (λ (b : Bool). predicate? p && b) (inside-close r 0 ∙ inside-closed r)
+      ∙ and-true (predicate? p);
+}
+
+case-star : {s : List ℕ} {p : Policy} → Inside s p → Inside (s ++ (42 ∷ [])) (Policy.stars p)
+unfolding predicate?
+case-star {s = s} {p = p} a = record {
+  inside = λ r n.
+      ap (λ (w : List ℕ). clean-inside? w (suc n)) (append-assoc s (42 ∷ []) r)
+      ∙ a .inside (42 ∷ r) n
+      ∙ ap (λ (b : Bool). predicate? p && b) (inside-byte 42 r n)
+      ∙ and-false (predicate? p);
+}
+
+-- two parts and the byte that joins them
+case-join : {s t : List ℕ} {p q : Policy} (b : ℕ) → Plain b → Inside s p → Inside t q → (r : List ℕ) (n : ℕ)
+    → clean-inside? ((s ++ (b ∷ t)) ++ r) (suc n) ≡ (predicate? p && predicate? q) && clean-inside? r (suc n)
+case-join {s = s} {t = t} {p = p} {q = q} b h x y r n =
+    ap (λ (w : List ℕ). clean-inside? w (suc n)) (append-assoc s (b ∷ t) r)
+    ∙ x .inside (b ∷ (t ++ r)) n
+    ∙ ap (λ (c : Bool). predicate? p && c) (inside-plain b (t ++ r) n h ∙ y .inside r n)
+    ∙ sym (and-assoc (predicate? p) (predicate? q) (clean-inside? r (suc n)))
+
+case-seq : {s t : List ℕ} {p q : Policy} → Inside s p → Inside t q → Inside (s ++ (59 ∷ t)) (Policy.seq p q)
+unfolding predicate?
+case-seq x y = record { inside = λ r n. case-join 59 (other-plain 59 (omega arith) (λ e. omega arith)) x y r n }
+
+case-plus : {s t : List ℕ} {p q : Policy} → Inside s p → Inside t q → Inside (s ++ (43 ∷ t)) (Policy.plus p q)
+unfolding predicate?
+case-plus x y = record {
+  inside = λ r n. case-join 43 (record { colon = λ e. omega arith; star = λ e. omega arith; opens = λ e. omega arith; closes = λ e. omega arith })
+      x y r n;
+}
+
+operand : {d : ℕ} {s : List ℕ} {p : Policy} → Atom d s p → Operand s p
+unfolding predicate?
+operand a = elim a as (λ d s p x. Operand s p) (λ d s p x. Inside s p) (λ d s p x. Inside s p) (λ d s p x. Inside s p) [
+  | a-zero ↦ case-digit 48 Policy.fail (omega arith) (omega arith) refl
+  | a-one ↦ case-digit 49 Policy.skip (omega arith) (omega arith) refl
+  | a-test f b ↦ case-test f b
+  | a-assign f b ↦ case-assign f b
+  | a-neg l (x → h) ↦ case-neg h
+  | a-paren l (x → h) ↦ case-paren h
+  | s-atom (x → h) ↦ record { inside = h .inside }
+  | s-star (x → h) ↦ case-star h
+  | p-one (x → h) ↦ h
+  | p-seq (x → h) (y → k) ↦ case-seq h k
+  | u-one (x → h) ↦ h
+  | u-plus (x → h) (y → k) ↦ case-plus h k
+]
+
+pub clean-atom : {d : ℕ} {s : List ℕ} {p : Policy} → Atom d s p → (r : List ℕ) → clean? (s ++ r) ≡ predicate? p
+clean-atom a r = operand a .alone r

@@ -1,0 +1,53 @@
+-- What the functions of `syntax` promise: each moves the run on over the part of the text that it read, whatever stands around it.
+use mathlib.Core.Path.{_≡_}
+use Prim.Native.Nat.{ℕ, _+_, _≤_, _<_}
+use mathlib.Core.List.{List}
+use mathlib.Core.Bool.{Bool, false, _||_}
+use lib.ListN.{length, drop, getD}
+use lib.Dec.{eqb}
+use Rattle.nodes.specs.Policies.{Policy}
+use Rattle.texts.specs.Machine.{Acc, Frame, State, need, post, Out, accept, bad, deep, nesting, run}
+use Rattle.texts.specs.declared.syntax.Read.{Read}
+use Rattle.texts.specs.declared.syntax.Read.the-variants.{End, Bad, Deep}
+
+-- the run over what is left of the text from an offset on
+unfoldable pub run-at : List ℕ → State → ℕ → Out
+run-at t q at = run 32 q at (drop at t)
+
+abbrev pub Open : Type 0
+Open = Acc → Acc → ℕ → List Frame → State
+
+-- from the open state q at `at`, nested d deep, the text reads an atom up to e, or it is refused
+unfoldable pub AtomPost : List ℕ → ℕ → Open → ℕ → Read → Type 0
+AtomPost t d q at (End e) = (at ≤ e) × (e ≤ length t)
+    × ((sa pa : Acc) (n : ℕ) (σ : List Frame) → n + nesting σ ≡ d → (v : Policy) × (run-at t (q sa pa n σ) at ≡ run-at t (post v sa pa σ) e))
+AtomPost t d q at (Bad i) = (sa pa : Acc) (n : ℕ) (σ : List Frame) → n + nesting σ ≡ d → run-at t (q sa pa n σ) at ≡ bad i
+AtomPost t d q at (Deep i) = (sa pa : Acc) (n : ℕ) (σ : List Frame) → n + nesting σ ≡ d → run-at t (q sa pa n σ) at ≡ deep i
+
+-- the bytes that a starred item, a product and a sum go on with
+abbrev pub after-starred : ℕ → Bool
+after-starred b = eqb b 42
+
+abbrev pub after-product : ℕ → Bool
+after-product b = eqb b 42 || eqb b 59
+
+abbrev pub after-sum : ℕ → Bool
+after-sum b = (eqb b 42 || eqb b 59) || eqb b 43
+
+-- from the start of an operand at `at`, nested d deep, the text reads up to e, where no byte follows that `goes` on, or it is refused
+unfoldable pub JoinPost : (ℕ → Bool) → List ℕ → ℕ → ℕ → Read → Type 0
+JoinPost goes t d at (End e) = (at ≤ e) × (e ≤ length t) × (e < length t → goes (getD t e 0) ≡ false)
+    × ((sa pa : Acc) (σ : List Frame) → nesting σ ≡ d → (sb pb : Acc) × (v : Policy) × (run-at t (need sa pa 0 σ) at ≡ run-at t (post v sb pb σ) e))
+JoinPost goes t d at (Bad i) = (sa pa : Acc) (σ : List Frame) → nesting σ ≡ d → run-at t (need sa pa 0 σ) at ≡ bad i
+JoinPost goes t d at (Deep i) = (sa pa : Acc) (σ : List Frame) → nesting σ ≡ d → run-at t (need sa pa 0 σ) at ≡ deep i
+
+-- the stars after an item
+unfoldable pub StarsPost : List ℕ → ℕ → ℕ → Type 0
+StarsPost t at e = (at ≤ e) × (e ≤ length t) × (e < length t → after-starred (getD t e 0) ≡ false)
+    × ((v : Policy) (sa pa : Acc) (σ : List Frame) → (u : Policy) × (run-at t (post v sa pa σ) at ≡ run-at t (post u sa pa σ) e))
+
+-- the answer for a whole text of n bytes
+unfoldable pub read-of : ℕ → Out → Read
+read-of n (accept p) = End n
+read-of n (bad i) = Bad i
+read-of n (deep i) = Deep i
