@@ -273,7 +273,7 @@ uint64_t packet_store_relation_has_path(const uint32_t *relations, size_t relati
 
 /*
  * The relation of level k that a policy text relates; it may add relation nodes. Two texts relate the same pairs
- * exactly when they have one handle. The text has at most 4,096 bytes and no spaces:
+ * exactly when they have one handle. The text, a pointer and a length in bytes, has at most 4,096 bytes and no spaces:
  *
  *   sum      products joined by +           union
  *   product  starred items joined by ;      one after the other
