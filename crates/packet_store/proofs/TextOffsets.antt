@@ -1,6 +1,5 @@
 -- The offset that a policy's refusal carries is at most 4,096, so it fits half an answer: from what each reading of a text says.
 use mathlib.Core.Path.{_≡_, sym, subst}
-use mathlib.Core.Bool.{Bool}
 use mathlib.Core.List.{List}
 use Prim.Native.Nat.{ℕ, _≤_}
 use native.Mathlib.Omega.{arith}
@@ -61,7 +60,7 @@ module _ (t : List ℕ) (M : Memories) where
       let v = pick (store? M) (text-verdict t (fields M)) (refuses (Store NotStore)) in
       let h = concludes-offset (set-places M) (rel-places M) (decode M) M (λ S. encode (fields M) S M) v in
       let l : verdict-offset v ≤ 4096 = by-test (λ b. verdict-offset (pick b (text-verdict t (fields M)) (refuses (Store NotStore))) ≤ 4096) (store? M)
-          (λ _. verdict-short (fields M) t) (λ _. omega arith) in
+      (λ _. verdict-short (fields M) t) (λ _. omega arith) in
       omega arith
 
   -- THE CLAIM, of what a policy call answers

@@ -5,7 +5,9 @@ ghost use Rattle.judging.specs.Memory.{memories};
 ghost use Rattle.policies.specs.Answers.{fault-number};
 ghost use Rattle.policies.specs.declared.PolicyAnswer.the-variants.{Declined};
 ghost use Rattle.packet_store.specs.Packed.{offset, packed-policy, AnswersPolicy};
-use policies::{Fault, PolicyAnswer, PolicyRefusal};
+use policies::Fault;
+use policies::PolicyAnswer;
+use policies::PolicyRefusal;
 
 // The number of what is wrong at a place in a text.
 fn fault_number(f: Fault) -> u32

@@ -1,11 +1,8 @@
 -- `pack` by the cases of an answer.
-use mathlib.Core.Path.{_≡_, refl, sym, ap, _∙_}
-use mathlib.Core.Bool.{Bool, true, false}
-use Prim.Native.Nat.{ℕ, _+_, _*_}
+use mathlib.Core.Path.{sym, ap, _∙_}
+use Prim.Native.Nat.{ℕ, _*_}
 use borrow.Author.Needs.{needs}
-use Rattle.store.specs.Answers.{number}
-use Rattle.store.specs.declared.Answer.{Answer}
-use Rattle.store.specs.declared.Answer.the-variants.{Handle, Truth, SetNode, RelationNode, Declined}
+use Rattle.store.specs.declared.Answer.the-variants.{Truth}
 use Rattle.packet_store.specs.Packed.{packed}
 use Rattle.packet_store.proofs.Answering.{low, high}
 use Rattle.packet_store.proofs.answers.pack.Statement.{statement}

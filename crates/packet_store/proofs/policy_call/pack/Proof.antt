@@ -1,5 +1,5 @@
 -- `pack` by the cases of a policy's answer.
-use mathlib.Core.Path.{_≡_, sym, ap, _∙_, subst}
+use mathlib.Core.Path.{sym, ap, _∙_, subst}
 use Prim.Native.Nat.{_≤_}
 use borrow.Author.Needs.{needs}
 use Rattle.policies.specs.declared.PolicyAnswer.{PolicyAnswer}
