@@ -9,8 +9,8 @@ use Rattle.nodes.specs.Store.{set, rel, pick}
 use Rattle.nodes.specs.WellFormed.{WellFormed}
 use Rattle.nodes.proofs.Bools.{by-test}
 use Rattle.nodes.proofs.Settle.{run-ext}
-use Rattle.judging.specs.Memory.{Memories, fields, decode, encode}
-use Rattle.store.specs.Calls.{Call, set-places, rel-places}
+use Rattle.judging.specs.Memory.{Memories, encode}
+use Rattle.store.specs.Calls.{set-places, rel-places}
 use Rattle.store.specs.Lists.{Matches, Alike, Grown, CallRight}
 use Rattle.store.specs.Outcome.{runs, Told, told, concludes}
 use Rattle.store.specs.PlainStore.{Plain, plain-store}
@@ -20,7 +20,6 @@ use Rattle.store.proofs.Matching.{matches-few, matches-formed}
 use Rattle.store.proofs.OneCall.{grown-none, concludes-alike, call-right}
 use Rattle.policies.specs.Lists.{AnyCall, call, policy, answered, read, retold, any-step, plain-any-step, all-calls}
 use Rattle.policies.specs.Outcome.{TextVerdict, refuses, builds, text-verdict, text-concludes, policy-step, plain-policy-step}
-use Rattle.policies.specs.declared.PolicyAnswer.{PolicyAnswer}
 use Rattle.policies.specs.declared.PolicyAnswer.the-variants.{Handle, Declined}
 use Rattle.policies.specs.declared.PolicyRefusal.the-variants.{Store}
 use Rattle.policies.proofs.OneText.{kept-does}

@@ -1,13 +1,11 @@
 -- A text within the rules, built on judged memories, comes to its outcome: from what the build pass runs and what `commit` leaves.
-use mathlib.Core.Path.{_≡_, refl, sym, ap, _∙_, subst}
+use mathlib.Core.Path.{_≡_, refl, sym, ap, _∙_}
 use mathlib.Core.Bool.{true, false}
 use mathlib.Core.List.{List}
-use Prim.Native.Nat.{ℕ, _+_, _-_, _*_, _<_, _≤_}
-use native.Mathlib.Omega.{arith}
+use Prim.Native.Nat.{ℕ, _+_, _-_, _*_, _≤_}
 use lib.ListN.{length}
 use borrow.Rule.Slice.PartMut.{putMid}
-use Rattle.nodes.specs.Meaning.{Relates}
-use Rattle.nodes.specs.Policies.{meaning, policy-program}
+use Rattle.nodes.specs.Policies.{policy-program}
 use Rattle.nodes.specs.Programs.{Prog}
 use Rattle.nodes.specs.Safety.{Safe}
 use Rattle.nodes.specs.Store.{rel, Store as Nodes, pick}
@@ -17,7 +15,7 @@ use Rattle.memory.specs.declared.Arena.{Arena}
 use Rattle.memory.proofs.Steps.{false≢true}
 use Rattle.judging.specs.Commit.{Committed}
 use Rattle.judging.specs.Memory.{Memories, count, fields, decode, encode}
-use Rattle.store.specs.Calls.{set-places, rel-places, on-store}
+use Rattle.store.specs.Calls.{set-places, rel-places}
 use Rattle.store.specs.Checking.{Accepted}
 use Rattle.store.specs.Finishing.{Finished}
 use Rattle.store.specs.Outcome.{Verdict, runs, told}
@@ -31,7 +29,7 @@ use Rattle.texts.specs.declared.Reading.{Reading}
 use Rattle.texts.proofs.Says.{tree-keeps}
 use Rattle.policies.specs.Building.{BuildsText}
 use Rattle.policies.specs.Lists.{retold}
-use Rattle.policies.specs.Outcome.{TextVerdict, refuses, builds, of-reading, short?, text-verdict, text-concludes, policy-step}
+use Rattle.policies.specs.Outcome.{refuses, builds, of-reading, short?, text-verdict, text-concludes, policy-step}
 use Rattle.policies.specs.declared.PolicyAnswer.{PolicyAnswer}
 use Rattle.policies.specs.declared.PolicyRefusal.{PolicyRefusal}
 use Rattle.policies.specs.declared.PolicyRefusal.the-variants.{Store}

@@ -8,5 +8,5 @@ pub mod TextOutcomes
 pub mod BuiltTexts
 pub mod OneText
 pub mod AllCalls
-pub mod Demand3
+pub mod EveryList
 pub mod WrongTexts

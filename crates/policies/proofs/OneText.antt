@@ -1,12 +1,11 @@
 -- A policy call by itself, on any memories whatever: the handle of an accepted text relates exactly the text's pairs. From what
 -- the text's program builds.
 use mathlib.Core.Path.{_≡_, refl, sym, ap, _∙_, subst}
-use mathlib.Core.Bool.{true, false}
 use mathlib.Core.List.{List}
 use Prim.Native.Nat.{ℕ}
 use lib.Dec.{T}
 use Rattle.nodes.specs.Meaning.{Relates}
-use Rattle.nodes.specs.Policies.{Policy, meaning, policy-program}
+use Rattle.nodes.specs.Policies.{Policy, meaning}
 use Rattle.nodes.specs.Programs.{Prog, run}
 use Rattle.nodes.specs.Store.{Store as Nodes}
 use Rattle.nodes.specs.WellFormed.{WellFormed}

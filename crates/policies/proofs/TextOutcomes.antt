@@ -1,8 +1,8 @@
 -- What a policy call comes to: as a call of the store that runs its policy's program, where it keeps the rules; else a refusal. From its verdict.
 use mathlib.Core.Path.{_≡_, refl, sym, ap, _∙_, subst}
-use mathlib.Core.Bool.{Bool, true, false}
+use mathlib.Core.Bool.{false}
 use mathlib.Core.List.{List}
-use Prim.Native.Nat.{ℕ, _≤_}
+use Prim.Native.Nat.{ℕ}
 use native.Mathlib.Omega.{arith}
 use lib.Dec.{T, leb→le}
 use lib.ListN.{length}
@@ -19,7 +19,6 @@ use Rattle.judging.proofs.Deciding.{decided-true}
 use Rattle.store.specs.Calls.{set-places, rel-places}
 use Rattle.store.specs.Outcome.{runs, Told, told, concludes}
 use Rattle.store.specs.declared.Answer as store
-use Rattle.store.specs.declared.Refusal.{Refusal}
 use Rattle.store.specs.declared.Refusal.the-variants.{NotStore, TooLong, UsedUp}
 use Rattle.texts.specs.Answers.{tree}
 use Rattle.texts.specs.Reading.{reading}

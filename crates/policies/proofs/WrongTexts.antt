@@ -1,7 +1,6 @@
 -- Wrong versions of the claims about texts, refuted by small lists of calls: from the theorem about every list.
-use mathlib.Core.Path.{_≡_, refl, sym, ap, _∙_}
-use mathlib.Core.Logic.{inl, inr}
-use mathlib.Core.Bool.{true, false}
+use mathlib.Core.Path.{_≡_, refl, sym, _∙_}
+use mathlib.Core.Logic.{inr}
 use mathlib.Core.List.{List, [], _∷_, _++_}
 use Prim.Native.Nat.{ℕ}
 use native.Mathlib.Omega.{arith}
@@ -18,13 +17,11 @@ use Rattle.store.specs.Calls.{new-store, step}
 use Rattle.store.specs.Lists.{in-turn, each-call}
 use Rattle.store.specs.Outcome.{provided, concludes}
 use Rattle.store.specs.declared.Answer.the-variants as store
-use Rattle.texts.specs.Grammar.{Sum, f-zero, b-zero, b-one, a-zero, a-one, a-test, s-atom, p-one, u-one, u-plus}
-use Rattle.policies.specs.Lists.{AnyCall, policy, text-relates, SamePairs, Keeps, answer-after, AcceptedIn, Demand3, plain-any-step}
-use Rattle.policies.specs.Outcome.{plain-policy-step}
-use Rattle.policies.specs.declared.PolicyAnswer.{PolicyAnswer}
+use Rattle.texts.specs.Grammar.{Sum, a-zero, a-one, s-atom, p-one, u-one, u-plus}
+use Rattle.policies.specs.Lists.{AnyCall, policy, Keeps, answer-after, AcceptedIn, TextsRight}
 use Rattle.policies.specs.declared.PolicyAnswer.the-variants.{Handle, Declined}
 use Rattle.policies.specs.declared.PolicyRefusal.{PolicyRefusal}
-use Rattle.policies.proofs.Demand3.{demand-3}
+use Rattle.policies.proofs.EveryList.{every-list}
 use Rattle.policies.proofs.OneText.{tree-relates}
 use Rattle.policies.proofs.TextOutcomes.{not-handle}
 
@@ -58,9 +55,9 @@ one-keeps = record {
 }
 
 -- a list of one text, on the store as `new` left it
-alone : (t : List ℕ) → Demand3 1 lent (policy t ∷ [])
+alone : (t : List ℕ) → TextsRight 1 lent (policy t ∷ [])
 unfolding each-call
-alone t = demand-3 1 lent 4 accepted (policy t ∷ []) (tt, tt)
+alone t = every-list 1 lent 4 accepted (policy t ∷ []) (tt, tt)
 
 zero-accepted : answer-after 1 lent [] zero-text ≡ Handle 2
 unfolding in-turn run new constant identity-at-depth get place having mk-store mk-handle policy-program zero-keeps
@@ -103,7 +100,8 @@ sum-text = zero-text ++ (43 ∷ one-text)
 sum-follows : Sum 32 sum-text (plus fail skip)
 sum-follows = u-plus (u-one (p-one (s-atom a-zero))) (p-one (s-atom a-one))
 
-pub sum-is-another : (cs : List AnyCall) (D : Demand3 1 lent cs) (g h : ℕ) → AcceptedIn 1 lent cs sum-text g → AcceptedIn 1 lent cs zero-text h → ¬ (g ≡ h)
+pub sum-is-another : (cs : List AnyCall) (D : TextsRight 1 lent cs) (g h : ℕ) → AcceptedIn 1 lent cs sum-text g → AcceptedIn 1 lent cs zero-text h
+    → ¬ (g ≡ h)
 unfolding meaning zero-keeps
 sum-is-another cs D g h A B e =
     let p : Packet 1 (0 ∷ []) = more 0 (omega arith) none in

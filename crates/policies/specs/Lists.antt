@@ -1,6 +1,6 @@
 -- DEMAND 3: lists of all 43 calls from an accepted `new`, and what is claimed of the texts accepted in them; 01, "A list of calls, and its count".
 use mathlib.Core.Path.{_≡_}
-use mathlib.Core.List.{List, [], _∷_, _++_}
+use mathlib.Core.List.{List, _∷_, _++_}
 use mathlib.Core.Logic.{_↔_}
 use Prim.Native.Nat.{ℕ, _≤_}
 use lib.ListN.{length}
@@ -12,7 +12,7 @@ use Rattle.nodes.specs.Programs.{Ran, run}
 use Rattle.nodes.specs.Store.{pick}
 use Rattle.judging.specs.Memory.{Memories, decode}
 use Rattle.store.specs.Calls.{Call, set-places, rel-places, step}
-use Rattle.store.specs.Lists.{Calling, NewRefused, AllGoOn, ListRight, after-new, beside-it}
+use Rattle.store.specs.Lists.{Calling, NewRefused, ListRight, after-new, beside-it}
 use Rattle.store.specs.Outcome.{Told, told}
 use Rattle.store.specs.PlainStore.{Plain, plain-step}
 use Rattle.store.specs.declared.Answer.{Answer}
@@ -88,7 +88,7 @@ module _ (k : ℕ) (M₀ : Memories) where
   plain-run before x = run (policy-program k x) (beside-it all-calls k M₀ before .state .lists)
 
   -- WHAT IS CLAIMED of it
-  pub record Demand3 (cs : List AnyCall) : Type 0 where
+  pub record TextsRight (cs : List AnyCall) : Type 0 where
     -- the answers are the plain store's, and the memories hold its lists
     pub list : ListRight all-calls k M₀ cs
     -- the handle of an accepted text relates, after the list, exactly the text's pairs; only a text that keeps the rules is accepted

@@ -12,6 +12,7 @@ use Rattle.texts.specs.Grammar.{Field, f-zero, f-one, f-two, Bit, b-zero
 use Rattle.texts.specs.Grammar.{Atom, a-zero, a-one, a-test, a-assign, a-neg, a-paren, s-atom, s-star}
 use Rattle.texts.specs.Grammar.{p-one, p-seq, u-one, u-plus}
 use Rattle.texts.specs.Reading.{test?, open-after, clean-inside?, clean?}
+use Rattle.texts.proofs.Passes.{inside-closed}
 
 -- one byte inside a parenthesis
 inside-byte : (b : ℕ) (s : List ℕ) (n : ℕ)
@@ -19,19 +20,12 @@ inside-byte : (b : ℕ) (s : List ℕ) (n : ℕ)
 unfolding clean-inside?
 inside-byte b s n = simp (ne-eqb (suc n) 0 (λ e. omega arith))
 
--- no `:`, `*`, `(` or `)`
-record Plain (b : ℕ) : Type 0 where
-  colon : b ≡ 58 → ⊥
-  star : b ≡ 42 → ⊥
-  opens : b ≡ 40 → ⊥
-  closes : b ≡ 41 → ⊥
-
-digit-plain : (b : ℕ) → 48 ≤ b → b ≤ 57 → Plain b
-digit-plain b h k = record { colon = λ e. omega arith; star = λ e. omega arith; opens = λ e. omega arith; closes = λ e. omega arith }
-
-inside-plain : (b : ℕ) (s : List ℕ) (n : ℕ) → Plain b → clean-inside? (b ∷ s) (suc n) ≡ clean-inside? s (suc n)
+-- a byte that is no `:`, `*`, `(` or `)`
+inside-plain : (b : ℕ) (s : List ℕ) (n : ℕ) → 42 < b → (b ≡ 58 → ⊥) → clean-inside? (b ∷ s) (suc n) ≡ clean-inside? s (suc n)
 unfolding open-after
-inside-plain b s n p = inside-byte b s n ∙ simp (ne-eqb b 58 (p .colon), ne-eqb b 42 (p .star), ne-eqb b 40 (p .opens), ne-eqb b 41 (p .closes))
+inside-plain b s n h k =
+    inside-byte b s n
+    ∙ simp (ne-eqb b 58 k, ne-eqb b 42 (λ e. omega arith), ne-eqb b 40 (λ e. omega arith), ne-eqb b 41 (λ e. omega arith))
 
 inside-open : (s : List ℕ) (n : ℕ) → clean-inside? (40 ∷ s) (suc n) ≡ clean-inside? s (suc (suc n))
 unfolding open-after
@@ -41,21 +35,16 @@ inside-close : (s : List ℕ) (n : ℕ) → clean-inside? (41 ∷ s) (suc n) ≡
 unfolding open-after
 inside-close s n = inside-byte 41 s n ∙ ap (clean-inside? s) (omega arith)
 
-inside-closed : (s : List ℕ) → clean-inside? s 0 ≡ true
-unfolding clean-inside?
-inside-closed [] = refl
-inside-closed (b ∷ s) = refl
-
-bit-plain : {c : ℕ} {v : Bool} → Bit c v → Plain c
-bit-plain b-zero = digit-plain 48 (omega arith) (omega arith)
-bit-plain b-one = digit-plain 49 (omega arith) (omega arith)
+inside-bit : {c : ℕ} {v : Bool} (s : List ℕ) (n : ℕ) → Bit c v → clean-inside? (c ∷ s) (suc n) ≡ clean-inside? s (suc n)
+inside-bit s n b-zero = inside-plain 48 s n (omega arith) (λ e. omega arith)
+inside-bit s n b-one = inside-plain 49 s n (omega arith) (λ e. omega arith)
 
 -- N
 inside-field : {f : List ℕ} {m : ℕ} (s : List ℕ) (n : ℕ) → Field f m → clean-inside? (f ++ s) (suc n) ≡ clean-inside? s (suc n)
-inside-field s n f-zero = inside-plain 48 s n (digit-plain 48 (omega arith) (omega arith))
-inside-field s n (f-one {a = a} g h) = inside-plain a s n (digit-plain a (omega arith) h)
+inside-field s n f-zero = inside-plain 48 s n (omega arith) (λ e. omega arith)
+inside-field s n (f-one {a = a} g h) = inside-plain a s n (omega arith) (λ e. omega arith)
 inside-field s n (f-two {a = a} {b = b} g h i j) =
-    inside-plain a (b ∷ s) n (digit-plain a (omega arith) h) ∙ inside-plain b s n (digit-plain b i j)
+    inside-plain a (b ∷ s) n (omega arith) (λ e. omega arith) ∙ inside-plain b s n (omega arith) (λ e. omega arith)
 
 test-digit : (b : ℕ) (s : List ℕ) → 48 ≤ b → b ≤ 57 → test? (b ∷ s) ≡ test? s
 unfolding test?
@@ -77,22 +66,19 @@ record Operand (s : List ℕ) (p : Policy) : Type 0 where
 case-digit : (b : ℕ) (p : Policy) → 48 ≤ b → b ≤ 57 → predicate? p ≡ true → Operand (b ∷ []) p
 unfolding clean?
 case-digit b p h k e = record {
-  inside = λ r n. inside-plain b r n (digit-plain b h k) ∙ simp e;
+  inside = λ r n. inside-plain b r n (omega arith) (λ z. omega arith) ∙ simp e;
   alone = λ r. simp (ne-eqb b 40 (λ z. omega arith), ne-eqb b 120 (λ z. omega arith), ne-eqb b 33 (λ z. omega arith)) (sym e);
 }
-
-other-plain : (b : ℕ) → 57 < b → (b ≡ 58 → ⊥) → Plain b
-other-plain b h k = record { colon = k; star = λ e. omega arith; opens = λ e. omega arith; closes = λ e. omega arith }
 
 case-test : {m c : ℕ} {f : List ℕ} {v : Bool} → Field f m → Bit c v → Operand (120 ∷ (f ++ (61 ∷ c ∷ []))) (Policy.tests m v)
 unfolding clean? predicate? test?
 case-test {c = c} {f = f} g b = record {
   inside = λ r n.
-      inside-plain 120 ((f ++ (61 ∷ c ∷ [])) ++ r) n (other-plain 120 (omega arith) (λ e. omega arith))
+      inside-plain 120 ((f ++ (61 ∷ c ∷ [])) ++ r) n (omega arith) (λ e. omega arith)
       ∙ ap (λ (s : List ℕ). clean-inside? s (suc n)) (append-assoc f (61 ∷ c ∷ []) r)
       ∙ inside-field (61 ∷ c ∷ r) n g
-      ∙ inside-plain 61 (c ∷ r) n (other-plain 61 (omega arith) (λ e. omega arith))
-      ∙ inside-plain c r n (bit-plain b);
+      ∙ inside-plain 61 (c ∷ r) n (omega arith) (λ e. omega arith)
+      ∙ inside-bit r n b;
   alone = λ r. ap test? (append-assoc f (61 ∷ c ∷ []) r) ∙ test-field (61 ∷ c ∷ r) g;
 }
 
@@ -100,7 +86,7 @@ case-assign : {m c : ℕ} {f : List ℕ} {v : Bool} → Field f m → Bit c v �
 unfolding clean? predicate? test?
 case-assign {c = c} {f = f} g b = record {
   inside = λ r n.
-      inside-plain 120 ((f ++ (58 ∷ 61 ∷ c ∷ [])) ++ r) n (other-plain 120 (omega arith) (λ e. omega arith))
+      inside-plain 120 ((f ++ (58 ∷ 61 ∷ c ∷ [])) ++ r) n (omega arith) (λ e. omega arith)
       ∙ ap (λ (s : List ℕ). clean-inside? s (suc n)) (append-assoc f (58 ∷ 61 ∷ c ∷ []) r)
       ∙ inside-field (58 ∷ 61 ∷ c ∷ r) n g
       ∙ inside-byte 58 (61 ∷ c ∷ r) n;
@@ -122,7 +108,7 @@ case-paren {s = s} {p = p} a = record {
   alone = λ r.
       ap (λ (w : List ℕ). clean-inside? w 1) (append-assoc s (41 ∷ []) r)
       ∙ a .inside (41 ∷ r) 0
-      ∙ ap (λ (b : Bool). predicate? p && b) (inside-close r 0 ∙ inside-closed r)
+      ∙ ap (λ (b : Bool). predicate? p && b) (inside-close r 0 ∙ inside-closed r 0 (omega arith))
       ∙ and-true (predicate? p);
 }
 
@@ -137,24 +123,21 @@ case-star {s = s} {p = p} a = record {
 }
 
 -- two parts and the byte that joins them
-case-join : {s t : List ℕ} {p q : Policy} (b : ℕ) → Plain b → Inside s p → Inside t q → (r : List ℕ) (n : ℕ)
+case-join : {s t : List ℕ} {p q : Policy} (b : ℕ) → 42 < b → (b ≡ 58 → ⊥) → Inside s p → Inside t q → (r : List ℕ) (n : ℕ)
     → clean-inside? ((s ++ (b ∷ t)) ++ r) (suc n) ≡ (predicate? p && predicate? q) && clean-inside? r (suc n)
-case-join {s = s} {t = t} {p = p} {q = q} b h x y r n =
+case-join {s = s} {t = t} {p = p} {q = q} b h k x y r n =
     ap (λ (w : List ℕ). clean-inside? w (suc n)) (append-assoc s (b ∷ t) r)
     ∙ x .inside (b ∷ (t ++ r)) n
-    ∙ ap (λ (c : Bool). predicate? p && c) (inside-plain b (t ++ r) n h ∙ y .inside r n)
+    ∙ ap (λ (c : Bool). predicate? p && c) (inside-plain b (t ++ r) n h k ∙ y .inside r n)
     ∙ sym (and-assoc (predicate? p) (predicate? q) (clean-inside? r (suc n)))
 
 case-seq : {s t : List ℕ} {p q : Policy} → Inside s p → Inside t q → Inside (s ++ (59 ∷ t)) (Policy.seq p q)
 unfolding predicate?
-case-seq x y = record { inside = λ r n. case-join 59 (other-plain 59 (omega arith) (λ e. omega arith)) x y r n }
+case-seq x y = record { inside = λ r n. case-join 59 (omega arith) (λ e. omega arith) x y r n }
 
 case-plus : {s t : List ℕ} {p q : Policy} → Inside s p → Inside t q → Inside (s ++ (43 ∷ t)) (Policy.plus p q)
 unfolding predicate?
-case-plus x y = record {
-  inside = λ r n. case-join 43 (record { colon = λ e. omega arith; star = λ e. omega arith; opens = λ e. omega arith; closes = λ e. omega arith })
-      x y r n;
-}
+case-plus x y = record { inside = λ r n. case-join 43 (omega arith) (λ e. omega arith) x y r n }
 
 operand : {d : ℕ} {s : List ℕ} {p : Policy} → Atom d s p → Operand s p
 unfolding predicate?

@@ -30,10 +30,10 @@ none-cons P b s = ap (λ (w : List ℕ). not (P (b ∷ w)) && none P s []) (appe
 none-later : (P : List ℕ → Bool) (b : ℕ) (s : List ℕ) → P (b ∷ s) ≡ false → none P (b ∷ s) [] ≡ none P s []
 none-later P b s e = none-cons P b s ∙ ap (λ (x : Bool). not x && none P s []) e
 
-first-later : (P : List ℕ → Bool) (i b : ℕ) (s : List ℕ) → P (b ∷ s) ≡ false → (f : Found) → FirstOf P (i + 1) s f → FirstOf P i (b ∷ s) f
+first-of-later : (P : List ℕ → Bool) (i b : ℕ) (s : List ℕ) → P (b ∷ s) ≡ false → (f : Found) → FirstOf P (i + 1) s f → FirstOf P i (b ∷ s) f
 unfolding FirstOf
-first-later P i b s e Nowhere h = none-later P b s e ∙ h
-first-later P i b s e (At j) (m, k, h) = (
+first-of-later P i b s e Nowhere h = none-later P b s e ∙ h
+first-of-later P i b s e (At j) (m, k, h) = (
   suc m,
   omega arith,
   record { inside = (let l = h .inside in omega arith); here = h .here; before = before; some = none-later P b s e ∙ h .some },
@@ -59,7 +59,7 @@ first-of P i (b ∷ s) = by (P (b ∷ s)) refl (first-of P (i + 1) s)
         some = none-cons P b s ∙ ap (λ (x : Bool). not x && none P s []) e;
       },
     )
-    by false e h = first-later P i b s e (first P (i + 1) s) h
+    by false e h = first-of-later P i b s e (first P (i + 1) s) h
 
 pub first-nowhere : (P : List ℕ → Bool) (t : List ℕ) → none P t [] ≡ true → first P 0 t ≡ Nowhere
 unfolding FirstOf

@@ -1,6 +1,4 @@
 -- `built` comes to the text's outcome: the build pass runs its policy's program, and `commit` ends it.
-use mathlib.Core.Path.{sym, _∙_}
-use Prim.Native.Nat.{_<_}
 use native.Mathlib.Omega.{arith}
 use borrow.Author.Needs.{needs}
 use Rattle.nodes.specs.Store.{rel}

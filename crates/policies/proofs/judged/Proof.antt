@@ -1,5 +1,5 @@
 -- `judged` comes to the text's outcome: refused by its length or its reading, or built.
-use mathlib.Core.Path.{refl, sym, ap, _∙_}
+use mathlib.Core.Path.{refl, sym, _∙_}
 use native.Mathlib.Omega.{arith}
 use lib.ListN.{length}
 use borrow.Author.Needs.{needs}

@@ -87,18 +87,9 @@ atom-returns : (t : ℕ) → atom-lts.Need-returns (atom-calls t) (atom-at t) at
 unfolding final
 atom-returns t c = atom-end _ _ _ _ (c .if1 .taken) (λ sa pa m σ. refl)
 
-atom-shared-slice-read-b : (t : ℕ) → atom-lts.Need-shared-slice-read-b (atom-calls t) (atom-at t) atom.Post
-atom-shared-slice-read-b t c = search needs
-
-atom-add-t11 : (t : ℕ) → atom-lts.Need-add-t11 (atom-calls t) (atom-at t) atom.Post
-atom-add-t11 t c = search needs
-
 atom-returns-2 : (t : ℕ) → atom-lts.Need-returns-2 (atom-calls t) (atom-at t) atom.Post
 unfolding step
 atom-returns-2 t c = atom-whole _ _ _ _ (λ m. negs m Policy.fail) (omega arith) (λ sa pa m σ. simp (eq-eqb _ _ (c .if2 .taken)))
-
-atom-add-t12 : (t : ℕ) → atom-lts.Need-add-t12 (atom-calls t) (atom-at t) atom.Post
-atom-add-t12 t c = search needs
 
 atom-returns-3 : (t : ℕ) → atom-lts.Need-returns-3 (atom-calls t) (atom-at t) atom.Post
 unfolding step
@@ -108,12 +99,6 @@ atom-returns-3 t c = atom-whole _ _ _ _ (λ m. negs m Policy.skip) (omega arith)
       (c .before .if2 .left),
 ))
 
-atom-add-read-field : (t : ℕ) → atom-lts.Need-add-read-field (atom-calls t) (atom-at t) atom.Post
-atom-add-read-field t c = search needs
-
-atom-read-field-requires : (t : ℕ) → atom-lts.Need-read-field-requires (atom-calls t) (atom-at t) atom.Post
-atom-read-field-requires t c κs = search needs
-
 atom-returns-4 : (t : ℕ) → atom-lts.Need-returns-4 (atom-calls t) (atom-at t) atom.Post
 unfolding step
 atom-returns-4 t c =
@@ -122,32 +107,11 @@ atom-returns-4 t c =
     (λ sa pa m σ. simp (eq-eqb _ _ (c .before .if4 .taken), ne-eqb _ _ (c3 .if2 .left), ne-eqb _ _ (c .before .before .if3 .left)))
     (c .read-field .ensures _)
 
-atom-add-atom : (t : ℕ) → atom-lts.Need-add-atom (atom-calls t) (atom-at t) atom.Post
-atom-add-atom t c = search needs
-
-atom-add-atom-2 : (t : ℕ) → atom-lts.Need-add-atom-2 (atom-calls t) (atom-at t) atom.Post
-atom-add-atom-2 t c = search needs
-
-atom-atom-requires : (t : ℕ) → atom-lts.Need-atom-requires (atom-calls t) (atom-at t) atom.Post
-atom-atom-requires t c κs = omega arith
-
 atom-returns-5 : (t : ℕ) → atom-lts.Need-returns-5 (atom-calls t) (atom-at t) atom.Post
 atom-returns-5 t c = atom-bang _ _ _ _ (omega arith) (c .before .before .if5 .taken) (c .before .if6 .taken) (c .atom .ensures)
 
 atom-returns-6 : (t : ℕ) → atom-lts.Need-returns-6 (atom-calls t) (atom-at t) atom.Post
 atom-returns-6 t c = atom-over _ _ _ (omega arith) (inl (c .before .if5 .taken)) (c .if6 .left)
-
-atom-add-sum : (t : ℕ) → atom-lts.Need-add-sum (atom-calls t) (atom-at t) atom.Post
-atom-add-sum t c = search needs
-
-atom-add-sum-2 : (t : ℕ) → atom-lts.Need-add-sum-2 (atom-calls t) (atom-at t) atom.Post
-atom-add-sum-2 t c = search needs
-
-atom-sum-requires : (t : ℕ) → atom-lts.Need-sum-requires (atom-calls t) (atom-at t) atom.Post
-atom-sum-requires t c κs = omega arith
-
-atom-enum-known-inner : (t : ℕ) → atom-lts.Need-enum-known-inner (atom-calls t) (atom-at t) atom.Post
-atom-enum-known-inner t c = search needs
 
 atom-returns-7 : (t : ℕ) → atom-lts.Need-returns-7 (atom-calls t) (atom-at t) atom.Post
 atom-returns-7 t c =
@@ -224,9 +188,6 @@ product-starred-requires t c κs =
     let within = joined-in _ _ _ _ (c .loop .inv) in
     omega arith
 
-product-enum-known-next : (t : ℕ) → product-lts.Need-enum-known-next (product-calls t) (product-at t) product.Post product-Inv-loop product-μ-loop
-product-enum-known-next t c = search needs
-
 product-returns : (t : ℕ) → product-lts.Need-returns (product-calls t) (product-at t) product.Post product-Inv-loop product-μ-loop
 product-returns t c = joined-last _ _ _ _ _ _ (c .before .before .loop .inv) (join-refused _ _ _ _ _ _ (c .match .keys2) (c .before .starred .ensures))
 
@@ -275,12 +236,6 @@ product-loop-again t c =
     joined-more _ _ _ _ _ _ (join-lt _ _ _ _ _ read (c .before .before .if1 .left)) (λ v sa pa σ. (_, _, step-semi v sa pa σ _ (c .if2 .left)))
     (c7 .loop .inv) read
 
-starred-atom-requires : (t : ℕ) → starred-lts.Need-atom-requires (starred-calls t) (starred-at t) starred.Post
-starred-atom-requires t c κs = omega arith
-
-starred-enum-known-first : (t : ℕ) → starred-lts.Need-enum-known-first (starred-calls t) (starred-at t) starred.Post
-starred-enum-known-first t c = search needs
-
 starred-returns : (t : ℕ) → starred-lts.Need-returns (starred-calls t) (starred-at t) starred.Post
 starred-returns t c = join-atom-refused _ _ _ _ _ (c .match .keys2) (c .before .atom .ensures)
 
@@ -308,9 +263,6 @@ sum-product-requires t c κs =
     let from = joined-from _ _ _ _ (c .loop .inv) in
     let within = joined-in _ _ _ _ (c .loop .inv) in
     omega arith
-
-sum-enum-known-next : (t : ℕ) → sum-lts.Need-enum-known-next (sum-calls t) (sum-at t) sum.Post sum-Inv-loop sum-μ-loop
-sum-enum-known-next t c = search needs
 
 sum-returns : (t : ℕ) → sum-lts.Need-returns (sum-calls t) (sum-at t) sum.Post sum-Inv-loop sum-μ-loop
 sum-returns t c = joined-last _ _ _ _ _ _ (c .before .before .loop .inv) (join-refused _ _ _ _ _ _ (c .match .keys2) (c .before .product .ensures))
@@ -365,23 +317,23 @@ pub +atom+product+starred+sum-spec : {M : Type 1} → statement M
     (atom-at t)
     atom.Post
     (atom-returns t)
-    (atom-shared-slice-read-b t)
-    (atom-add-t11 t)
+    (λ c. search needs)
+    (λ c. search needs)
     (atom-returns-2 t)
-    (atom-add-t12 t)
+    (λ c. search needs)
     (atom-returns-3 t)
-    (atom-add-read-field t)
-    (atom-read-field-requires t)
+    (λ c. search needs)
+    (λ c κs. search needs)
     (atom-returns-4 t)
-    (atom-add-atom t)
-    (atom-add-atom-2 t)
-    (atom-atom-requires t)
+    (λ c. search needs)
+    (λ c. search needs)
+    (λ c κs. omega arith)
     (atom-returns-5 t)
     (atom-returns-6 t)
-    (atom-add-sum t)
-    (atom-add-sum-2 t)
-    (atom-sum-requires t)
-    (atom-enum-known-inner t)
+    (λ c. search needs)
+    (λ c. search needs)
+    (λ c κs. omega arith)
+    (λ c. search needs)
     (atom-returns-7 t)
     (atom-returns-8 t)
     (atom-shared-slice-read-if10 t)
@@ -398,7 +350,7 @@ pub +atom+product+starred+sum-spec : {M : Type 1} → statement M
     product-μ-loop
     (product-loop-holds t)
     (product-starred-requires t)
-    (product-enum-known-next t)
+    (λ c. search needs)
     (product-returns t)
     (product-returns-2 t)
     (product-shared-slice-read-if2 t)
@@ -410,8 +362,8 @@ pub +atom+product+starred+sum-spec : {M : Type 1} → statement M
     (starred-calls t)
     (starred-at t)
     starred.Post
-    (starred-atom-requires t)
-    (starred-enum-known-first t)
+    (λ c κs. omega arith)
+    (λ c. search needs)
     (starred-returns t)
     (starred-stars-requires t)
     (starred-returns-2 t))
@@ -423,7 +375,7 @@ pub +atom+product+starred+sum-spec : {M : Type 1} → statement M
     sum-μ-loop
     (sum-loop-holds t)
     (sum-product-requires t)
-    (sum-enum-known-next t)
+    (λ c. search needs)
     (sum-returns t)
     (sum-returns-2 t)
     (sum-shared-slice-read-if2 t)

@@ -13,15 +13,15 @@ use Rattle.nodes.proofs.Pairs.{relates-ext}
 use Rattle.nodes.proofs.Policies.{one-handle↔}
 use Rattle.judging.specs.Memory.{Memories, fields, decode}
 use Rattle.store.specs.Calls.{new-store, set-places, rel-places, step}
-use Rattle.store.specs.Lists.{in-turn, AllGoOn, ListRight, Lasts, answer-of, left-by, steps, after-new, beside-it}
+use Rattle.store.specs.Lists.{in-turn, AllGoOn, ListRight, Lasts, answer-of, left-by, after-new, beside-it}
 use Rattle.store.specs.Outcome.{told}
-use Rattle.store.specs.PlainStore.{Plain, plain-store}
+use Rattle.store.specs.PlainStore.{plain-store}
 use Rattle.store.specs.declared.Answer.the-variants as store
 use Rattle.store.specs.declared.Refusal.the-variants.{UsedUp}
 use Rattle.store.proofs.InTurn.{turn-parted, each-before}
 use Rattle.store.proofs.Lists.{lists-right}
-use Rattle.policies.specs.Lists.{AnyCall, policy, any-step, all-calls, text-relates, Keeps, policy-of, answer-after, AcceptedIn, plain-run, Demand3}
-use Rattle.policies.specs.Outcome.{builds, text-verdict, text-concludes, policy-step, plain-policy-step}
+use Rattle.policies.specs.Lists.{AnyCall, policy, any-step, all-calls, text-relates, Keeps, policy-of, answer-after, AcceptedIn, plain-run, TextsRight}
+use Rattle.policies.specs.Outcome.{text-verdict, text-concludes, policy-step, plain-policy-step}
 use Rattle.policies.specs.declared.PolicyAnswer.the-variants.{Handle, Declined}
 use Rattle.policies.specs.declared.PolicyRefusal.the-variants.{Store}
 use Rattle.policies.proofs.AllCalls.{policy-alike, any-right}
@@ -96,8 +96,8 @@ module _ (k : ℕ) (M₀ : Memories) (z : ℕ) (new : step (new-store k) M₀ .a
         ∙ built-answer m n k t r (P .lists) P (plain-store (P .width))
 
     -- THE THEOREM
-    pub demand-3 : Demand3 k M₀ cs
-    demand-3 = record {
+    pub every-list : TextsRight k M₀ cs
+    every-list = record {
       list = right cs;
       relates = relates-end;
       keeps = keeps-end;
