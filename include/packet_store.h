@@ -23,10 +23,12 @@
  * relation of level 0; the relation node at place i has handle i + 2.
  *
  * ANSWER. Each function returns one number: in its high half the refusal's number, 0 where the call was
- * accepted; in its low half the handle, 1 or 0 for yes or no, or 0 where the call was refused.
+ * accepted; in its low half the handle, 1 or 0 for yes or no, or 0 where the call was refused. A policy that is
+ * refused with 5, 7, 8 or 9 has an offset in its text there.
  *
- *   1 not a store     2 handle not held     3 levels differ
- *   4 no children     5 out of range        6 places used up
+ *   1 not a store     2 handle not held     3 levels differ     4 no children     5 out of range
+ *   6 places used up  7 not a policy        8 ! over a non-predicate              9 nested too deep
+ *  10 text too long
  *
  * A refused call changes neither relations nor sets. Every call, refused or not, leaves work all zeros.
  * Where several refusals apply, the first in the function's list is returned. Refusal 1 covers both memories:
@@ -49,6 +51,10 @@ extern "C" {
 #define PACKET_STORE_NO_CHILDREN 4
 #define PACKET_STORE_OUT_OF_RANGE 5
 #define PACKET_STORE_USED_UP 6
+#define PACKET_STORE_NOT_POLICY 7
+#define PACKET_STORE_NOT_PREDICATE 8
+#define PACKET_STORE_TOO_DEEP 9
+#define PACKET_STORE_TOO_LONG 10
 
 /* The two halves of an answer. */
 #define PACKET_STORE_REFUSAL(answer) ((uint32_t)((answer) >> 32))
@@ -262,6 +268,28 @@ uint64_t packet_store_relation_has_image(const uint32_t *relations, size_t relat
 /* 1 if a relates some packet of p to some packet of q, else 0. Refuses: 1; 2 if p, a or q is not held; 3 if their levels differ. */
 uint64_t packet_store_relation_has_path(const uint32_t *relations, size_t relations_len, const uint32_t *sets, size_t sets_len,
                                         uint32_t *work, size_t work_len, uint32_t p, uint32_t a, uint32_t q);
+
+/* POLICIES */
+
+/*
+ * The relation of level k that a policy text relates; it may add relation nodes. Two texts relate the same pairs
+ * exactly when they have one handle. The text, a pointer and a length in bytes, has at most 4,096 bytes and no spaces:
+ *
+ *   sum      products joined by +           union
+ *   product  starred items joined by ;      one after the other
+ *   starred  an atom, any number of *       any number of steps, none included
+ *   atom     0  1  xN=b  xN:=b  !atom  (sum)
+ *
+ * 0 relates nothing, 1 each packet to itself, xN=b the packets whose field N is b to themselves, xN:=b each packet to
+ * itself with b in field N, !p the packets that p refuses to themselves. N is one or two digits without a leading
+ * zero, b is 0 or 1; an atom stands inside at most 32 ( and !, and the operand of a ! has neither := nor *.
+ *
+ * Refuses: 1; 10 if the text is longer; 7 at the first byte that cannot stand there, or at the length where the text
+ * ends too soon, or 9 at the first ( or ! inside 32 others, whichever offset is lower; 5 at the first x whose N is k or
+ * more; 8 at the first ! over := or *; 6. With 5, 7, 8 and 9 the low half is the offset, with 1, 6 and 10 it is 0.
+ */
+uint64_t packet_store_policy(uint32_t *relations, size_t relations_len, const uint32_t *sets, size_t sets_len,
+                             uint32_t *work, size_t work_len, const uint8_t *text, size_t text_len);
 
 #ifdef __cplusplus
 }

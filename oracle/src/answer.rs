@@ -11,6 +11,16 @@ pub enum Refusal {
     NoChildren = 4,
     OutOfRange = 5,
     UsedUp = 6,
+    TooLong = 10,
+}
+
+/// The refusals that carry a place in a text.
+#[derive(Clone, Copy, Debug, PartialEq, Eq)]
+pub enum Fault {
+    NoField = 5,
+    NotPolicy = 7,
+    NotPredicate = 8,
+    TooDeep = 9,
 }
 
 #[derive(Clone, Debug, PartialEq, Eq)]
@@ -22,6 +32,19 @@ pub enum Answer {
     /// The children of a node: two of a set, four of a relation.
     Children(Vec<u32>),
     Refused(Refusal),
+    /// A policy with a fault at this offset.
+    RefusedAt(Fault, usize),
+}
+
+impl Answer {
+    /// The refusal's number, where there is one.
+    pub fn refusal(&self) -> Option<usize> {
+        match self {
+            Answer::Refused(refusal) => Some(*refusal as usize),
+            Answer::RefusedAt(fault, _) => Some(*fault as usize),
+            _ => None,
+        }
+    }
 }
 
 /// A letter for the kind of answer, then its numbers.
@@ -36,6 +59,7 @@ impl fmt::Display for Answer {
                 children.iter().try_for_each(|child| write!(f, " {child}"))
             }
             Answer::Refused(refusal) => write!(f, "r {}", *refusal as u32),
+            Answer::RefusedAt(fault, offset) => write!(f, "r {} {offset}", *fault as u32),
         }
     }
 }

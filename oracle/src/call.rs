@@ -9,6 +9,7 @@ use std::str::FromStr;
 pub enum Call {
     New { fields: u32, relation_places: u32, set_places: u32 },
     Operation(&'static Operation, Vec<u32>),
+    Policy(Vec<u8>),
 }
 
 impl Call {
@@ -25,16 +26,20 @@ impl Call {
                 }
             }
             Call::Operation(operation, arguments) => store.call(operation, arguments),
+            Call::Policy(text) => store.policy(text),
         }
     }
 }
 
-/// A name and decimal numbers, one space before each number.
+/// A name and decimal numbers, one space before each number; or `policy`, a space and the text.
 impl FromStr for Call {
     type Err = String;
 
     fn from_str(line: &str) -> Result<Call, String> {
         let (name, numbers) = line.split_once(' ').map_or((line, None), |(a, b)| (a, Some(b)));
+        if name == "policy" {
+            return Ok(Call::Policy(numbers.unwrap_or("").into()));
+        }
         let mut arguments = Vec::new();
         for word in numbers.iter().flat_map(|numbers| numbers.split(' ')) {
             arguments.push(word.parse().map_err(|_| format!("no number: {word}"))?);
@@ -64,6 +69,7 @@ impl fmt::Display for Call {
                 write!(f, "{}", operation.name)?;
                 arguments.iter().try_for_each(|argument| write!(f, " {argument}"))
             }
+            Call::Policy(text) => write!(f, "policy {}", String::from_utf8_lossy(text)),
         }
     }
 }

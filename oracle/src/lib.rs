@@ -5,6 +5,7 @@ pub mod call;
 pub mod check;
 pub mod draw;
 pub mod operations;
+pub mod policy;
 pub mod random;
 pub mod replay;
 pub mod store;

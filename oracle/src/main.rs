@@ -8,7 +8,7 @@ use std::process::ExitCode;
 
 const USAGE: &str = "usage: oracle replay
        oracle check
-       oracle draw SEED COUNT [sets | relations | both]";
+       oracle draw SEED COUNT [sets | relations | both | policies]";
 
 const EFFORT: Effort = Effort { all_up_to: 65536, random_lists: 5000 };
 
@@ -37,6 +37,7 @@ fn draw(words: &[&str]) -> io::Result<()> {
         [seed, count, "sets"] => (seed, count, Part::Sets),
         [seed, count, "relations"] => (seed, count, Part::Relations),
         [seed, count, "both"] => (seed, count, Part::Both),
+        [seed, count, "policies"] => (seed, count, Part::Policies),
         _ => return Err(io::Error::other(USAGE)),
     };
     let (Ok(seed), Ok(count)) = (seed.parse(), count.parse()) else {

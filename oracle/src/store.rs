@@ -2,6 +2,7 @@
 
 use crate::answer::{Answer, Refusal};
 use crate::operations::{self, Operation, Sort};
+use crate::policy;
 use reference::sp::{SPnode, SP};
 use reference::spp::{SPPnode, SPPstore, SPP};
 use std::collections::HashSet;
@@ -107,11 +108,24 @@ impl Store {
     /// Runs one operation, or refuses it and leaves the store as it was.
     pub fn call(&mut self, operation: &Operation, arguments: &[u32]) -> Answer {
         assert_eq!(arguments.len(), operation.sorts.len(), "{}", operation.name);
-        if let Some(refusal) = self.refusal(operation, arguments) {
-            return Answer::Refused(refusal);
+        match self.refusal(operation, arguments) {
+            Some(refusal) => Answer::Refused(refusal),
+            None => self.run(|rust| (operation.run)(rust, arguments)),
         }
+    }
+
+    /// Builds a policy, or refuses it and leaves the store as it was.
+    pub fn policy(&mut self, text: &[u8]) -> Answer {
+        match policy::judge(text, self.fields) {
+            Err(refusal) => refusal,
+            Ok(policy) => self.run(|rust| Answer::Handle(policy::build(&policy, rust).0)),
+        }
+    }
+
+    /// Runs what is within its rules; where the nodes do not fit, the store is as it was.
+    fn run(&mut self, run: impl FnOnce(&mut SPPstore) -> Answer) -> Answer {
         let (relations, sets) = self.counts();
-        let answer = (operation.run)(&mut self.rust, arguments);
+        let answer = run(&mut self.rust);
         if self.fits() {
             return answer;
         }

@@ -63,4 +63,5 @@ declare! {
     Writes Reads packet_store_relation_ibwd(p: u32);
     Reads Reads packet_store_relation_has_image(p: u32, a: u32);
     Reads Reads packet_store_relation_has_path(p: u32, a: u32, q: u32);
+    Writes Reads packet_store_policy(text: *const u8, text_len: usize);
 }

@@ -20,13 +20,13 @@ impl Lend for &mut [u32] {
     }
 }
 
-/// Calls a function of the library on the three memories and its own arguments.
-macro_rules! call {
+/// Calls a function of the library on the three memories and its own arguments; the answer is packed.
+macro_rules! ask {
     ($function:ident, $relations:ident, $sets:ident, $work:ident $(, $argument:expr)*) => {{
         let (relations_len, sets_len, work_len) = ($relations.len(), $sets.len(), $work.len());
         // SAFETY: each pointer comes from a slice of the length beside it, and slices that are
         // written are borrowed mutably, so none overlaps another. The function writes only to them.
-        $crate::refusal::unpack(unsafe {
+        unsafe {
             $crate::c::$function(
                 $crate::lend::Lend::pointer($relations),
                 relations_len,
@@ -36,8 +36,15 @@ macro_rules! call {
                 work_len
                 $(, $argument)*
             )
-        })
+        }
     }};
 }
 
-pub(crate) use call;
+/// The same, with the answer's value or its refusal.
+macro_rules! call {
+    ($($argument:tt)*) => {
+        $crate::refusal::unpack($crate::lend::ask!($($argument)*))
+    };
+}
+
+pub(crate) use {ask, call};

@@ -1,9 +1,9 @@
-//! Why a call is refused.
+//! Why a call is refused, by document 01's numbers.
 
 use std::error::Error;
 use std::fmt;
 
-/// The refusals, by document 01's numbers.
+/// The store's own refusals.
 #[derive(Clone, Copy, Debug, PartialEq, Eq, Hash)]
 pub enum Refusal {
     /// The memories do not hold a store.
@@ -18,17 +18,20 @@ pub enum Refusal {
     OutOfRange = 5,
     /// The places of a kind are used up.
     UsedUp = 6,
+    /// A text is too long.
+    TooLong = 10,
 }
 
 impl Refusal {
     /// All refusals, in the order of their numbers.
-    pub const ALL: [Refusal; 6] = [
+    pub const ALL: [Refusal; 7] = [
         Refusal::NotStore,
         Refusal::NotHeld,
         Refusal::LevelsDiffer,
         Refusal::NoChildren,
         Refusal::OutOfRange,
         Refusal::UsedUp,
+        Refusal::TooLong,
     ];
 
     /// The refusal's number.
@@ -47,16 +50,102 @@ impl fmt::Display for Refusal {
             Refusal::NoChildren => "no children there",
             Refusal::OutOfRange => "number out of range",
             Refusal::UsedUp => "places used up",
+            Refusal::TooLong => "text too long",
         })
     }
 }
 
 impl Error for Refusal {}
 
-/// The value in an answer's low half, or the refusal whose number is in its high half.
+/// What is wrong at a place in a text.
+#[derive(Clone, Copy, Debug, PartialEq, Eq, Hash)]
+pub enum Fault {
+    /// A field is not there.
+    NoField = 5,
+    /// The text is not a policy.
+    NotPolicy = 7,
+    /// `!` stands over a non-predicate.
+    NotPredicate = 8,
+    /// An atom is nested too deep.
+    TooDeep = 9,
+}
+
+impl Fault {
+    /// All faults, in the order of their numbers.
+    pub const ALL: [Fault; 4] =
+        [Fault::NoField, Fault::NotPolicy, Fault::NotPredicate, Fault::TooDeep];
+}
+
+/// The fault in words.
+impl fmt::Display for Fault {
+    fn fmt(&self, f: &mut fmt::Formatter<'_>) -> fmt::Result {
+        f.write_str(match self {
+            Fault::NoField => "no such field",
+            Fault::NotPolicy => "not a policy",
+            Fault::NotPredicate => "`!` over a non-predicate",
+            Fault::TooDeep => "nested too deep",
+        })
+    }
+}
+
+/// Why a policy is refused.
+#[derive(Clone, Copy, Debug, PartialEq, Eq, Hash)]
+pub enum PolicyRefusal {
+    /// A fault, and its offset in the text.
+    At(Fault, u32),
+    /// The store's own refusal.
+    Store(Refusal),
+}
+
+impl PolicyRefusal {
+    /// The refusal's number.
+    pub fn number(self) -> u32 {
+        match self {
+            PolicyRefusal::At(fault, _) => fault as u32,
+            PolicyRefusal::Store(refusal) => refusal.number(),
+        }
+    }
+}
+
+/// The refusal in words, with the offset of a fault.
+impl fmt::Display for PolicyRefusal {
+    fn fmt(&self, f: &mut fmt::Formatter<'_>) -> fmt::Result {
+        match self {
+            PolicyRefusal::At(fault, offset) => write!(f, "{fault} at {offset}"),
+            PolicyRefusal::Store(refusal) => refusal.fmt(f),
+        }
+    }
+}
+
+impl Error for PolicyRefusal {}
+
+impl From<Refusal> for PolicyRefusal {
+    fn from(refusal: Refusal) -> PolicyRefusal {
+        PolicyRefusal::Store(refusal)
+    }
+}
+
+/// The two halves of an answer: the refusal's number, or 0, and the value.
+fn halves(answer: u64) -> (u32, u32) {
+    ((answer >> 32) as u32, answer as u32)
+}
+
+/// The value of an answer, or its refusal.
 pub(crate) fn unpack(answer: u64) -> Result<u32, Refusal> {
-    match (answer >> 32) as u32 {
-        0 => Ok(answer as u32),
-        number => Err(Refusal::ALL[number as usize - 1]),
+    match halves(answer) {
+        (0, value) => Ok(value),
+        (number, _) => {
+            let found = Refusal::ALL.into_iter().find(|refusal| refusal.number() == number);
+            Err(found.expect("the library returns document 01's numbers alone"))
+        }
+    }
+}
+
+/// The handle of a policy's answer, or its refusal: 5 is a fault there.
+pub(crate) fn unpack_policy(answer: u64) -> Result<u32, PolicyRefusal> {
+    let (number, value) = halves(answer);
+    match Fault::ALL.into_iter().find(|&fault| fault as u32 == number) {
+        Some(fault) => Err(PolicyRefusal::At(fault, value)),
+        None => unpack(answer).map_err(PolicyRefusal::Store),
     }
 }

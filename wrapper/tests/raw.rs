@@ -1,7 +1,7 @@
 //! What only C sees: null pointers of no length, and children that stay as they are.
 
 use packet_store::{new, set_zero};
-use std::ptr::null_mut;
+use std::ptr::{null, null_mut};
 
 extern "C" {
     fn packet_store_set_get(
@@ -25,9 +25,20 @@ extern "C" {
         a: u32,
         children: *mut u32,
     ) -> u64;
+
+    fn packet_store_policy(
+        relations: *mut u32,
+        relations_len: usize,
+        sets: *const u32,
+        sets_len: usize,
+        work: *mut u32,
+        work_len: usize,
+        text: *const u8,
+        text_len: usize,
+    ) -> u64;
 }
 
-/// One of the two.
+/// One of the first two.
 type Get = unsafe extern "C" fn(
     *const u32,
     usize,
@@ -74,4 +85,22 @@ fn get_writes_the_children_of_an_accepted_call_only() {
     assert_eq!(relation(&sets, 1), (4 << 32, kept));
     assert_eq!(relation(&sets[..2], 3), (1 << 32, kept));
     assert_eq!(set_zero(&relations, &mut sets, &mut []), Ok(2));
+}
+
+#[test]
+fn a_policys_answer_has_two_halves() {
+    let (mut relations, mut sets) = ([0; 14], [0; 3]);
+    new(&mut relations, &mut sets, &mut [], 1).unwrap();
+    let mut judge = |text: *const u8, len| {
+        let (r, s) = (relations.as_mut_ptr(), sets.as_ptr());
+        // SAFETY: the pointers are those of slices, work has no numbers, and a text of no bytes is not read.
+        unsafe { packet_store_policy(r, 14, s, 3, null_mut(), 0, text, len) }
+    };
+    assert_eq!(judge(null(), 0), 7 << 32);
+    let text = b"1+x0=5";
+    assert_eq!(judge(text.as_ptr(), text.len()), 7 << 32 | 5);
+    assert_eq!(judge(text.as_ptr(), 1), 3);
+    assert_eq!(judge(text[2..].as_ptr(), 3), 7 << 32 | 3);
+    assert_eq!(judge(b"x0=1".as_ptr(), 4), 6 << 32);
+    assert_eq!(judge([b'1'; 4097].as_ptr(), 4097), 10 << 32);
 }

@@ -4,6 +4,7 @@ pub mod creation;
 pub mod filter_calls;
 pub mod image_calls;
 pub mod path_reads;
+pub mod policy_call;
 pub mod relation_calls;
 pub mod relation_reads;
 pub mod set_calls;

@@ -1,7 +1,7 @@
 //! One call of the library on lent memory, compared with what the oracle says.
 
 use crate::lent::{Guard, Lent};
-use crate::library::{self, Memories};
+use crate::library::{self, Asked, Memories};
 use crate::memory::encode;
 use oracle::answer::Answer;
 use oracle::random::Random;
@@ -45,8 +45,7 @@ impl Case {
     /// is none, and the working memory all zeros.
     pub fn make(
         &mut self,
-        name: &str,
-        arguments: &[u32],
+        asked: Asked,
         answer: &Answer,
         after: Option<&Store>,
         random: &mut Random,
@@ -59,8 +58,7 @@ impl Case {
         let mut zeros = work.clone();
         zeros.numbers_mut().fill(0);
         let given = library::make(
-            name,
-            arguments,
+            asked,
             Memories {
                 relations: self.relations.numbers_mut(),
                 sets: self.sets.numbers_mut(),
@@ -82,10 +80,4 @@ impl Case {
         }
         Ok(())
     }
-}
-
-/// A call as the oracle writes it, `new` with its number of fields alone.
-pub fn line(name: &str, arguments: &[u32]) -> String {
-    let numbers: String = arguments.iter().map(|x| format!(" {x}")).collect();
-    format!("{name}{numbers}")
 }

@@ -1,12 +1,12 @@
 //! Damaged memory: one number changed or some numbers cut off, then every call with any arguments.
 
-use crate::case::{line, Case, Difference};
+use crate::case::{Case, Difference};
 use crate::lent::{Guard, WorkLengths};
-use crate::library;
+use crate::library::{self, Asked};
 use crate::memory::{decode, headed, lengths, places_in};
 use oracle::answer::{Answer, Refusal};
 use oracle::call::Call;
-use oracle::draw::{Draw, Part};
+use oracle::draw::{texts, Draw, Part};
 use oracle::operations::{self, Operation, Sort};
 use oracle::random::Random;
 use oracle::replay::empty_store;
@@ -147,13 +147,40 @@ fn every_call(
             Some(store) => store.call(operation, &arguments),
             None => Answer::Refused(Refusal::NotAStore),
         };
-        let after = if matches!(answer, Answer::Refused(_)) { None } else { store.as_ref() };
+        let after = if answer.refusal().is_some() { None } else { store.as_ref() };
         counts.calls += 1;
         counts.used_up += u64::from(answer == Answer::Refused(Refusal::UsedUp));
-        let made = case.make(operation.name, &arguments, &answer, after, random);
-        made.map_err(|what| (line(operation.name, &arguments), what))?;
+        let asked = Asked::Numbers(operation.name, &arguments);
+        let made = case.make(asked, &answer, after, random);
+        made.map_err(|what| (asked.to_string(), what))?;
+    }
+    if part == Part::Policies {
+        policy(case.clone(), counts, work, random)?;
     }
     begin(case, counts, random)
+}
+
+/// Makes a policy call on these memories.
+fn policy(
+    mut case: Case,
+    counts: &mut Counts,
+    work: &mut WorkLengths,
+    random: &mut Random,
+) -> Result<(), (String, String)> {
+    let mut store = decode(case.relations.numbers(), case.sets.numbers());
+    let fields = store.as_ref().map_or(2, |store| store.fields());
+    case.work = work.next(fields, true);
+    let text = texts::text(fields, random);
+    let answer = match &mut store {
+        Some(store) => store.policy(&text),
+        None => Answer::Refused(Refusal::NotAStore),
+    };
+    let after = if answer.refusal().is_some() { None } else { store.as_ref() };
+    counts.calls += 1;
+    counts.used_up += u64::from(answer == Answer::Refused(Refusal::UsedUp));
+    let asked = Asked::Policy(&text);
+    let made = case.make(asked, &answer, after, random);
+    made.map_err(|what| (asked.to_string(), what))
 }
 
 /// Makes a `new` with any number of fields on these memories, which may hold anything.
@@ -172,15 +199,17 @@ fn begin(mut case: Case, counts: &mut Counts, random: &mut Random) -> Result<(),
     };
     counts.calls += 1;
     counts.used_up += u64::from(answer == Answer::Refused(Refusal::UsedUp));
-    let made = case.make("new", &[fields], &answer, after.as_ref(), random);
-    made.map_err(|what| (line("new", &[fields]), what))
+    let numbers = [fields];
+    let asked = Asked::Numbers("new", &numbers);
+    let made = case.make(asked, &answer, after.as_ref(), random);
+    made.map_err(|what| (asked.to_string(), what))
 }
 
 /// Whether an operation is of this part.
 fn of_part(operation: &Operation, part: Part) -> bool {
     let within = |list: &[Operation]| list.iter().any(|other| other.name == operation.name);
     match part {
-        Part::All => true,
+        Part::All | Part::Policies => true,
         Part::Sets => within(&operations::SETS),
         Part::Relations => within(&operations::RELATIONS),
         Part::Both => within(&operations::SETS) || within(&operations::RELATIONS),

@@ -1,6 +1,6 @@
 //! How the time of a call grows with the nodes of a full store.
 
-use crate::library::{self, Memories};
+use crate::library::{self, Asked, Memories};
 use crate::memory::{encode, lengths};
 use oracle::answer::{Answer, Refusal};
 use oracle::random::Random;
@@ -64,7 +64,7 @@ fn time(full: &Full, name: &str, arguments: &[u32]) -> f64 {
     for _ in 0..TRIES {
         let start = Instant::now();
         let memories = Memories { relations: &mut relations, sets: &mut sets, work: &mut work };
-        std::hint::black_box(library::make(name, arguments, memories));
+        std::hint::black_box(library::make(Asked::Numbers(name, arguments), memories));
         least = least.min(start.elapsed().as_nanos() as f64);
     }
     assert!(sets == full.sets, "a call on a full store adds nothing");

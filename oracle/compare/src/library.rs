@@ -1,14 +1,35 @@
 //! The library's calls by the oracle's names.
 
-use oracle::answer::{Answer, Refusal};
+use oracle::answer::{Answer, Fault, Refusal};
 use oracle::operations::{self, Operation};
 use packet_store as library;
+use std::fmt;
 
 /// The three memories of a call.
 pub struct Memories<'a> {
     pub relations: &'a mut [u32],
     pub sets: &'a mut [u32],
     pub work: &'a mut [u32],
+}
+
+/// A call with its arguments: numbers, or a policy's text.
+#[derive(Clone, Copy)]
+pub enum Asked<'a> {
+    Numbers(&'a str, &'a [u32]),
+    Policy(&'a [u8]),
+}
+
+/// The call as the oracle writes it, `new` with its number of fields alone; a text with its odd bytes escaped.
+impl fmt::Display for Asked<'_> {
+    fn fmt(&self, f: &mut fmt::Formatter<'_>) -> fmt::Result {
+        match self {
+            Asked::Numbers(name, numbers) => {
+                f.write_str(name)?;
+                numbers.iter().try_for_each(|number| write!(f, " {number}"))
+            }
+            Asked::Policy(text) => write!(f, "policy {}", text.escape_ascii()),
+        }
+    }
 }
 
 type Run = fn(Memories, &[u32]) -> Result<Answer, library::Refusal>;
@@ -122,8 +143,12 @@ pub static CALLS: [(&str, Run); 41] = [
     }),
 ];
 
-/// Makes a call of the library; `new` is there too.
-pub fn make(name: &str, arguments: &[u32], memories: Memories) -> Answer {
+/// Makes a call of the library.
+pub fn make(asked: Asked, memories: Memories) -> Answer {
+    let (name, numbers) = match asked {
+        Asked::Policy(text) => return policy(text, memories),
+        Asked::Numbers(name, numbers) => (name, numbers),
+    };
     let run = match name {
         "new" => NEW,
         _ => {
@@ -131,7 +156,25 @@ pub fn make(name: &str, arguments: &[u32], memories: Memories) -> Answer {
             found.unwrap_or_else(|| panic!("the library has no call {name}")).1
         }
     };
-    run(memories, arguments).unwrap_or_else(|refusal| Answer::Refused(oracles(refusal)))
+    run(memories, numbers).unwrap_or_else(|refusal| Answer::Refused(oracles(refusal)))
+}
+
+/// The text is lent as a heap block of its own, whose ends valgrind watches.
+fn policy(text: &[u8], memories: Memories) -> Answer {
+    let text = text.to_vec().into_boxed_slice();
+    match library::policy(memories.relations, memories.sets, memories.work, &text) {
+        Ok(handle) => Answer::Handle(handle),
+        Err(library::PolicyRefusal::Store(refusal)) => Answer::Refused(oracles(refusal)),
+        Err(library::PolicyRefusal::At(fault, offset)) => {
+            let fault = match fault {
+                library::Fault::NoField => Fault::NoField,
+                library::Fault::NotPolicy => Fault::NotPolicy,
+                library::Fault::NotPredicate => Fault::NotPredicate,
+                library::Fault::TooDeep => Fault::TooDeep,
+            };
+            Answer::RefusedAt(fault, offset as usize)
+        }
+    }
 }
 
 /// Whether an operation takes or makes relations.
@@ -148,5 +191,6 @@ fn oracles(refusal: library::Refusal) -> Refusal {
         library::Refusal::NoChildren => Refusal::NoChildren,
         library::Refusal::OutOfRange => Refusal::OutOfRange,
         library::Refusal::UsedUp => Refusal::UsedUp,
+        library::Refusal::TooLong => Refusal::TooLong,
     }
 }

@@ -2,7 +2,8 @@
 
 use crate::case::{Case, Difference};
 use crate::lent::{Guard, WorkLengths};
-use crate::library;
+use crate::library::{self, Asked};
+use crate::meaning;
 use crate::memory::lengths;
 use oracle::answer::{Answer, Refusal};
 use oracle::call::Call;
@@ -14,15 +15,18 @@ use std::collections::BTreeMap;
 
 /// What was compared.
 #[derive(Default)]
-struct Counts {
+pub struct Counts {
     calls: u64,
-    stores: u64,
-    refused: [u64; 7],
+    pub stores: u64,
+    refused: [u64; 11],
     /// The accepted calls of each name.
     accepted: BTreeMap<&'static str, u64>,
     /// The calls on stores of each number of fields.
     fields: BTreeMap<u32, u64>,
     most_nodes: (u32, u32),
+    /// The policies, and those of them whose pairs were compared.
+    policies: u64,
+    walked: u64,
 }
 
 /// Draws a list as `oracle draw` does and makes its calls on the library and on the oracle.
@@ -34,8 +38,11 @@ pub fn compare(seed: u64, count: usize, part: Part) -> Result<String, Difference
     let mut case = Case::noise(lengths(0, 0, (0, 0)), Guard::Words, &mut noise);
     case.encode(&store);
     for (number, call) in Draw::new(seed, part).take(count).enumerate() {
-        let on_relations =
-            matches!(&call, Call::Operation(operation, _) if library::on_relations(operation));
+        let on_relations = match &call {
+            Call::Operation(operation, _) => library::on_relations(operation),
+            Call::Policy(_) => true,
+            Call::New { .. } => false,
+        };
         case.work = work.next(store.fields(), on_relations);
         let made = match &call {
             Call::New { fields, relation_places, set_places } => {
@@ -45,10 +52,11 @@ pub fn compare(seed: u64, count: usize, part: Part) -> Result<String, Difference
             Call::Operation(operation, arguments) => {
                 let answer = store.call(operation, arguments);
                 counts.enter(operation.name, &answer, &store);
-                let accepted = !matches!(answer, Answer::Refused(_));
-                let after = accepted.then_some(&store);
-                case.make(operation.name, arguments, &answer, after, &mut noise)
+                let after = answer.refusal().is_none().then_some(&store);
+                let asked = Asked::Numbers(operation.name, arguments);
+                case.make(asked, &answer, after, &mut noise)
             }
+            Call::Policy(text) => policy(text, &mut store, &mut case, &mut counts, &mut noise),
         };
         made.map_err(|what| {
             let (n, m) = store.counts();
@@ -58,10 +66,35 @@ pub fn compare(seed: u64, count: usize, part: Part) -> Result<String, Difference
                 number + 1,
                 case.work
             );
-            Difference { context, call: call.to_string(), what }
+            let call = match &call {
+                Call::Policy(text) => Asked::Policy(text).to_string(),
+                call => call.to_string(),
+            };
+            Difference { context, call, what }
         })?;
     }
     Ok(counts.summary(seed))
+}
+
+/// Judges a policy; in a store of few fields its handle must relate the pairs that the text means.
+pub fn policy(
+    text: &[u8],
+    store: &mut Store,
+    case: &mut Case,
+    counts: &mut Counts,
+    noise: &mut Random,
+) -> Result<(), String> {
+    let answer = store.policy(text);
+    counts.enter("policy", &answer, store);
+    counts.policies += 1;
+    let after = answer.refusal().is_none().then_some(&*store);
+    case.make(Asked::Policy(text), &answer, after, noise)?;
+    let Answer::Handle(handle) = answer else { return Ok(()) };
+    if store.fields() > meaning::MOST_FIELDS {
+        return Ok(());
+    }
+    counts.walked += 1;
+    meaning::compare(text, handle, store.fields(), case)
 }
 
 /// Makes a `new` on memories full of noise that have these places; where it is accepted they take
@@ -83,7 +116,7 @@ fn open(
             let top = opened.ask("top", &[]);
             counts.stores += 1;
             counts.enter("new", &top, &opened);
-            fresh.make("new", &[fields], &top, Some(&opened), noise)?;
+            fresh.make(Asked::Numbers("new", &[fields]), &top, Some(&opened), noise)?;
             *store = opened;
             *case = fresh;
             Ok(())
@@ -91,10 +124,11 @@ fn open(
         Err(refusal) => {
             let answer = Answer::Refused(refusal);
             counts.enter("new", &answer, store);
-            fresh.make("new", &[fields], &answer, None, noise)?;
+            let asked = Asked::Numbers("new", &[fields]);
+            fresh.make(asked, &answer, None, noise)?;
             // Too many fields are refused on the memories in use too.
             if refusal == Refusal::OutOfRange {
-                case.make("new", &[fields], &answer, None, noise)?;
+                case.make(asked, &answer, None, noise)?;
             }
             Ok(())
         }
@@ -105,32 +139,34 @@ impl Counts {
     /// Enters a call that the oracle answered, and the store after it.
     fn enter(&mut self, name: &'static str, answer: &Answer, store: &Store) {
         self.calls += 1;
-        match answer {
-            Answer::Refused(refusal) => self.refused[*refusal as usize] += 1,
-            _ => *self.accepted.entry(name).or_default() += 1,
+        match answer.refusal() {
+            Some(number) => self.refused[number] += 1,
+            None => *self.accepted.entry(name).or_default() += 1,
         }
         *self.fields.entry(store.fields()).or_default() += 1;
         let (n, m) = store.counts();
         self.most_nodes = (self.most_nodes.0.max(n), self.most_nodes.1.max(m));
     }
 
-    fn summary(&self, seed: u64) -> String {
+    pub fn summary(&self, seed: u64) -> String {
         let refused: Vec<String> =
-            (1..7).map(|number| format!("{number}: {}", self.refused[number])).collect();
+            (1..11).map(|number| format!("{number}: {}", self.refused[number])).collect();
         let fields: Vec<String> =
             self.fields.iter().map(|(fields, calls)| format!("{fields}: {calls}")).collect();
         let least = self.accepted.iter().min_by_key(|(_, calls)| **calls);
         let (name, times) = least.expect("a list begins with an accepted new");
         format!(
             "AGREES seed {seed}: {} calls of {} names, {name} accepted {times} times and the others no less, {} stores, \
-             refused {}, calls by fields {}, at most {} and {} nodes",
+             refused {}, calls by fields {}, at most {} and {} nodes; {} policies, the pairs of {} compared",
             self.calls,
             self.accepted.len(),
             self.stores,
             refused.join(", "),
             fields.join(", "),
             self.most_nodes.0,
-            self.most_nodes.1
+            self.most_nodes.1,
+            self.policies,
+            self.walked
         )
     }
 }

@@ -6,16 +6,19 @@ mod growth;
 mod lent;
 mod library;
 mod lists;
+mod meaning;
 mod memory;
+mod texts;
 
 use case::Difference;
 use lent::Guard;
 use oracle::draw::Part;
 use std::process::ExitCode;
 
-const USAGE: &str = "usage: compare calls SEED COUNT [sets | relations | both]
-       compare damage SEED COUNT [sets | relations | both]
-       compare bare SEED COUNT [sets | relations | both]
+const USAGE: &str = "usage: compare calls SEED COUNT [sets | relations | both | policies]
+       compare damage SEED COUNT [sets | relations | both | policies]
+       compare bare SEED COUNT [sets | relations | both | policies]
+       compare texts SEED COUNT
        compare growth";
 
 fn main() -> ExitCode {
@@ -45,6 +48,7 @@ fn run(words: &[&str]) -> Option<Result<String, Difference>> {
         }
         ["damage", ref words @ ..] => damaged(words, Guard::Words),
         ["bare", ref words @ ..] => damaged(words, Guard::Bare),
+        ["texts", seed, count] => Some(texts::compare(seed.parse().ok()?, count.parse().ok()?)),
         ["growth"] => Some(Ok(growth::measure())),
         _ => None,
     }
@@ -62,6 +66,7 @@ fn part(words: &[&str]) -> Option<Part> {
         ["sets"] => Some(Part::Sets),
         ["relations"] => Some(Part::Relations),
         ["both"] => Some(Part::Both),
+        ["policies"] => Some(Part::Policies),
         [] => Some(Part::All),
         _ => None,
     }

@@ -5,12 +5,14 @@ mod bench;
 mod meaning;
 mod operands;
 mod plain;
+mod policies;
 mod worked;
 
 use crate::operations::{self, Operation, Sort};
 use crate::random::Random;
 use bench::Bench;
 use meaning::Value;
+pub use policies::text_relation;
 use std::io::{self, Write};
 
 /// The levels compared are those below this.

@@ -2,6 +2,7 @@
 
 mod handles;
 mod spoil;
+pub mod texts;
 
 use crate::answer::Answer;
 use crate::call::Call;
@@ -19,6 +20,8 @@ pub enum Part {
     Relations,
     /// Those on sets alone and those on relations alone.
     Both,
+    /// All, and as many policies.
+    Policies,
 }
 
 /// An endless list of calls, the same for the same seed. The first is an accepted `new`.
@@ -43,7 +46,11 @@ impl Draw {
     /// A `new` that is accepted: mostly of few fields, at times with hardly any places to spare.
     fn accepted_new(&mut self) -> Call {
         let random = &mut self.random;
-        let fields = if random.once_in(5) { random.pick(&[8, 16, 32]) } else { random.below(7) };
+        let fields = match self.part {
+            Part::Policies if random.once_in(4) => random.below(33),
+            _ if random.once_in(5) => random.pick(&[8, 16, 32]),
+            _ => random.below(7),
+        };
         let (relations, sets) = match random.below(8) {
             0..=2 => (4096, 4096),
             3 | 4 => (random.below(60), random.below(30)),
@@ -114,6 +121,8 @@ impl Iterator for Draw {
             self.accepted_new()
         } else if self.random.once_in(100) {
             self.refused_new()
+        } else if self.part == Part::Policies && self.random.once_in(2) {
+            Call::Policy(texts::text(self.store.fields(), &mut self.random))
         } else {
             self.operation()
         };
@@ -131,7 +140,7 @@ impl Iterator for Draw {
 /// relation; with many they are made of tests and assignments, sums, products and stars.
 fn weighed(part: Part, fields: u32) -> Vec<&'static Operation> {
     let operations: Vec<_> = match part {
-        Part::All => operations::all().collect(),
+        Part::All | Part::Policies => operations::all().collect(),
         Part::Sets => operations::SETS.iter().collect(),
         Part::Relations => operations::RELATIONS.iter().collect(),
         Part::Both => operations::SETS.iter().chain(&operations::RELATIONS).collect(),

@@ -56,10 +56,10 @@ impl Bench {
     }
 
     /// Makes a call that may add relations.
-    pub fn add_relation(
+    pub fn add_relation<E>(
         &mut self,
-        call: impl FnOnce(&mut [u32], &[u32], &mut [u32]) -> Result<u32, Refusal>,
-    ) -> Result<u32, Refusal> {
+        call: impl FnOnce(&mut [u32], &[u32], &mut [u32]) -> Result<u32, E>,
+    ) -> Result<u32, E> {
         let before = self.relations.clone();
         let answer = call(&mut self.relations, &self.sets, &mut self.work);
         if answer.is_err() {
@@ -67,6 +67,11 @@ impl Bench {
         }
         self.spoil_work();
         answer
+    }
+
+    /// Judges a policy.
+    pub fn judge(&mut self, text: impl AsRef<[u8]>) -> Result<u32, PolicyRefusal> {
+        self.add_relation(|r, s, w| policy(r, s, w, text.as_ref()))
     }
 
     /// Makes a call that adds nothing.

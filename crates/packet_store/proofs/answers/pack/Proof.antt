@@ -1,13 +1,10 @@
 -- `pack` by the cases of an answer.
-use mathlib.Core.Path.{_≡_, refl, sym, ap, _∙_}
-use mathlib.Core.Bool.{Bool, true, false}
-use Prim.Native.Nat.{ℕ, _+_, _*_}
-use native.Mathlib.Nat.{zero-mul, zero-add, add-zero}
+use mathlib.Core.Path.{sym, ap, _∙_}
+use Prim.Native.Nat.{ℕ, _*_}
 use borrow.Author.Needs.{needs}
-use Rattle.store.specs.Answers.{number}
-use Rattle.store.specs.declared.Answer.{Answer}
-use Rattle.store.specs.declared.Answer.the-variants.{Handle, Truth, SetNode, RelationNode, Declined}
+use Rattle.store.specs.declared.Answer.the-variants.{Truth}
 use Rattle.packet_store.specs.Packed.{packed}
+use Rattle.packet_store.proofs.Answering.{low, high}
 use Rattle.packet_store.proofs.answers.pack.Statement.{statement}
 use Rattle.packet_store.proofs.answers.pack.Tie as tie
 
@@ -43,14 +40,6 @@ cast-result-4 c = search needs
 
 mul-result : tie.Need-mul-result
 mul-result c = search needs
-
--- a value alone
-low : (v : ℕ) → v ≡ 0 * 4294967296 + v
-low v = sym (ap (λ x. x + v) (zero-mul 4294967296) ∙ zero-add v)
-
--- a refusal alone
-high : (v : ℕ) → v * 4294967296 ≡ v * 4294967296 + 0
-high v = sym (add-zero (v * 4294967296))
 
 returns : tie.Need-returns
 returns c = low _ ∙ sym (ap packed (c .before .a .given .1))

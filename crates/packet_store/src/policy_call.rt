@@ -1,0 +1,58 @@
+// The call on a policy text, under its C name.
+ghost use mathlib.Core.Path.{_≡_};
+ghost use Prim.Native.Nat.{_≤_};
+ghost use Rattle.judging.specs.Memory.{memories};
+ghost use Rattle.policies.specs.Answers.{fault-number};
+ghost use Rattle.policies.specs.declared.PolicyAnswer.the-variants.{Declined};
+ghost use Rattle.packet_store.specs.Packed.{offset, packed-policy, AnswersPolicy};
+use policies::Fault;
+use policies::PolicyAnswer;
+use policies::PolicyRefusal;
+
+// The number of what is wrong at a place in a text.
+fn fault_number(f: Fault) -> u32
+    ensures { λ n. ⌜ n ≡ fault-number f ⌝ }
+{
+    match f {
+        Fault::NotPolicy => 7,
+        Fault::NotPredicate => 8,
+        Fault::TooDeep => 9,
+        Fault::NoField => 5,
+    }
+}
+
+// The number of a refusal in the high half, its offset in the low half.
+fn pack_refusal(r: PolicyRefusal) -> u64
+    requires { ⌜ offset (Declined r) ≤ 4096 ⌝ }
+    ensures { λ n. ⌜ n ≡ packed-policy (Declined r) ⌝ }
+{
+    match r {
+        PolicyRefusal::At(f, i) => fault_number(f) as u64 * 0x1_0000_0000 + i as u64,
+        PolicyRefusal::Store(s) => store::number_of(s) as u64 * 0x1_0000_0000,
+    }
+}
+
+// The handle, or the refusal.
+fn pack(a: PolicyAnswer) -> u64
+    requires { ⌜ offset a ≤ 4096 ⌝ }
+    ensures { λ n. ⌜ n ≡ packed-policy a ⌝ }
+{
+    match a {
+        PolicyAnswer::Handle(h) => h as u64,
+        PolicyAnswer::Declined(r) => pack_refusal(r),
+    }
+}
+
+// The relation that a policy text means.
+#[no_mangle]
+pub extern "C" fn packet_store_policy(
+    relations: &mut [u32],
+    sets: &[u32],
+    work: &mut [u32],
+    text: &[u8],
+) -> u64
+    ensures { λ r. ⌜ AnswersPolicy (now (text .entry)) (memories (now (relations .entry)) (now (sets .entry)))
+        (memories (now (relations .exit)) (now (sets .entry))) (now (work .entry)) (now (work .exit)) r ⌝ }
+{
+    pack(policies::policy(relations, sets, work, text))
+}

@@ -1,0 +1,35 @@
+/* Judges two relay tables, policy texts of packets with k fields: do they relate the same packets? */
+#include <stdio.h>
+#include <stdlib.h>
+#include <string.h>
+
+#include "packet_store.h"
+
+#define PLACES 4096
+
+static uint32_t relations[2 + 4 * PLACES], sets[1 + 2 * PLACES], work[32768];
+
+/* The handle of a table; a refusal ends the program. */
+static uint32_t judge(const char *table) {
+    uint64_t answer = packet_store_policy(relations, 2 + 4 * PLACES, sets, 1 + 2 * PLACES, work, 32768,
+                                          (const uint8_t *)table, strlen(table));
+    if (PACKET_STORE_REFUSAL(answer) != 0) {
+        printf("refused: %u, offset %u\n", PACKET_STORE_REFUSAL(answer), PACKET_STORE_VALUE(answer));
+        exit(2);
+    }
+    return PACKET_STORE_VALUE(answer);
+}
+
+int main(int count, char **words) {
+    char *end = NULL;
+    unsigned long k = count == 4 ? strtoul(words[1], &end, 10) : 0;
+    if (end == NULL || end == words[1] || *end != 0 || k > 32) {
+        fprintf(stderr, "usage: judge K TABLE TABLE, K from 0 to 32\n");
+        return 2;
+    }
+    packet_store_new(relations, 2 + 4 * PLACES, sets, 1 + 2 * PLACES, work, 32768, (uint32_t)k);
+    uint32_t one = judge(words[2]);
+    uint32_t other = judge(words[3]);
+    puts(one == other ? "equal" : "different");
+    return one == other ? 0 : 1;
+}

@@ -1,0 +1,32 @@
+//! The call on a policy text.
+
+use crate::lend::ask;
+use crate::refusal::unpack_policy;
+use crate::PolicyRefusal;
+
+/// The relation of level k that a policy text relates.
+///
+/// Refuses with `NotStore`; `TooLong` if `text` has more than 4,096 bytes; `NotPolicy` at the first byte that
+/// cannot stand there, or the length where the text ends too soon, or `TooDeep` at the first `(` or `!` inside
+/// 32 others, whichever comes first; `NoField` at the first `x` whose field is k or more; `NotPredicate` at the
+/// first `!` over `:=` or `*`; `UsedUp`.
+///
+/// ```
+/// use packet_store::{new, policy, Fault, PolicyRefusal};
+/// let (relations, sets) = (&mut [0; 2 + 4 * 64], &mut [0; 1 + 2 * 4]);
+/// let mut work = [0; 4096];
+/// new(relations, sets, &mut work, 1)?;
+/// let mut judge = |text| policy(relations, sets, &mut work, text);
+/// assert_eq!(judge(b"x0=0+x0=1"), judge(b"1"));
+/// assert_eq!(judge(b"x0=5"), Err(PolicyRefusal::At(Fault::NotPolicy, 3)));
+/// # Ok::<(), packet_store::Refusal>(())
+/// ```
+pub fn policy(
+    relations: &mut [u32],
+    sets: &[u32],
+    work: &mut [u32],
+    text: &[u8],
+) -> Result<u32, PolicyRefusal> {
+    let (bytes, len) = (text.as_ptr(), text.len());
+    unpack_policy(ask!(packet_store_policy, relations, sets, work, bytes, len))
+}
