@@ -1,0 +1,56 @@
+//! The two stores that are timed: the proved one in lent memory, and the Rust.
+
+use oracle::policy::{self, Policy};
+use packet_store::{relations_len, sets_len, PolicyRefusal};
+use reference::spp::SPPstore;
+use std::time::{Duration, Instant};
+
+pub const MOST_PLACES: usize = 4096;
+
+/// The memory that the proved store is lent, allocated once for many policies.
+pub struct Lent {
+    pub relations: Vec<u32>,
+    pub sets: Vec<u32>,
+    pub work: Vec<u32>,
+}
+
+impl Lent {
+    /// Room for 4,096 nodes of each kind, and working memory of so many bytes.
+    pub fn new(work_bytes: usize) -> Lent {
+        Lent {
+            relations: vec![0; relations_len(MOST_PLACES)],
+            sets: vec![0; sets_len(MOST_PLACES)],
+            work: vec![0; work_bytes / 4],
+        }
+    }
+
+    /// A policy's handle in a new store; reading the text is part of it.
+    pub fn run(&mut self, fields: u32, text: &str) -> Result<u32, PolicyRefusal> {
+        packet_store::new(&mut self.relations, &mut self.sets, &mut self.work, fields)?;
+        packet_store::policy(&mut self.relations, &self.sets, &mut self.work, text.as_bytes())
+    }
+
+    /// How many relation nodes are held.
+    pub fn count(&self) -> u32 {
+        self.relations[1]
+    }
+}
+
+/// A policy's handle in a new store of the Rust, whose memory is given back after the time is taken.
+pub fn run_rust(fields: u32, policy: &Policy) -> (SPPstore, u32) {
+    let mut store = SPPstore::new(fields);
+    let handle = policy::build(policy, &mut store).0;
+    (store, handle)
+}
+
+/// What a piece of work gives, and its time.
+pub fn timed<T>(work: impl FnOnce() -> T) -> (T, Duration) {
+    let start = Instant::now();
+    let given = std::hint::black_box(work());
+    (given, start.elapsed())
+}
+
+pub fn median(mut numbers: Vec<f64>) -> f64 {
+    numbers.sort_by(f64::total_cmp);
+    numbers[numbers.len() / 2]
+}
