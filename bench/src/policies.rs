@@ -22,6 +22,7 @@ pub struct Drawn {
     pub nodes: u32,
 }
 
+const ROUNDS: usize = 9;
 const MOST_BYTES: usize = 4096;
 /// The working memory by which texts are chosen; which ones fit does not depend on it.
 const CHOOSING: usize = 256 << 10;
@@ -43,28 +44,36 @@ pub fn draw(seed: u64, what: Draw) -> Vec<Drawn> {
     drawn
 }
 
-/// A table of both times for each working memory, all in the same rounds; handles and counts of nodes must agree.
-pub fn measure(drawn: &[Drawn], fields: u32, works: &[usize], rounds: usize) -> String {
-    let mut lents: Vec<Lent> = works.iter().map(|&bytes| Lent::new(bytes)).collect();
-    let mut all: Vec<Vec<f64>> = vec![];
-    // The first round only warms up.
-    for round in 0..=rounds {
-        let times = one_round(drawn, fields, &mut lents, round);
-        if round > 0 {
-            all.push(times);
-        }
-    }
-    let column = |i: usize| median(all.iter().map(|times| times[i]).collect());
-    let rust = column(works.len());
-    let mut table =
-        format!("{:>16}{:>16}{:>16}{:>8}\n", "working memory", "ours, ms", "Rust, ms", "ratio");
-    for (i, &bytes) in works.iter().enumerate() {
-        let ratio = median(all.iter().map(|times| times[i] / times[works.len()]).collect());
-        let memory = format!("{} KiB", bytes >> 10);
-        table +=
-            &format!("{memory:>16}{:>16.2}{:>16.2}{ratio:>8.3}\n", column(i) / 1e6, rust / 1e6);
+/// What was drawn, and both times for each working memory, all in the same rounds.
+pub fn table(seed: u64, what: Draw, works: &[usize]) -> String {
+    let drawn = draw(seed, what);
+    let mut table = format!("k = {}, {} policies of seed {seed}\n", what.fields, what.count);
+    table += &spread("bytes", drawn.iter().map(|drawn| drawn.text.len() as f64));
+    table += &spread("nodes", drawn.iter().map(|drawn| f64::from(drawn.nodes)));
+    let rounds = rounds(&drawn, what.fields, works);
+    let column = |i: usize| median(rounds.iter().map(|times| times[i] / 1e6));
+    let last = works.len();
+    table += "working memory      ours, ms      Rust, ms   ratio\n";
+    for (i, bytes) in works.iter().enumerate() {
+        let ratio = median(rounds.iter().map(|times| times[i] / times[last]));
+        let [ours, rust] = [column(i), column(last)];
+        table += &format!("{:>10} KiB{ours:>14.2}{rust:>14.2}{ratio:>8.2}\n", bytes >> 10);
     }
     table
+}
+
+/// The least, the median and the greatest of some numbers.
+fn spread(title: &str, numbers: impl Iterator<Item = f64> + Clone) -> String {
+    let least = numbers.clone().fold(f64::INFINITY, f64::min);
+    let greatest = numbers.clone().fold(0.0, f64::max);
+    format!("{title}: {least} to {greatest}, median {}\n", median(numbers))
+}
+
+/// The times of each round; the round before them only warms up.
+fn rounds(drawn: &[Drawn], fields: u32, works: &[usize]) -> Vec<Vec<f64>> {
+    let mut lents: Vec<Lent> = works.iter().map(|&bytes| Lent::new(bytes)).collect();
+    one_round(drawn, fields, &mut lents, 0);
+    (1..=ROUNDS).map(|round| one_round(drawn, fields, &mut lents, round)).collect()
 }
 
 /// The total nanoseconds of a round for each working memory, and last the Rust's. The sides take turns in being first.
@@ -87,4 +96,26 @@ fn one_round(drawn: &[Drawn], fields: u32, lents: &mut [Lent], round: usize) -> 
         totals[lents.len()] += time.as_nanos() as f64;
     }
     totals
+}
+
+/// One of the two stores.
+pub enum Side {
+    Ours,
+    Rust,
+}
+
+/// Runs the texts of standard input once on one side, for a profiler.
+pub fn once(side: Side, fields: u32) {
+    let mut lent = Lent::new(CHOOSING);
+    for line in std::io::stdin().lines() {
+        let text = line.expect("standard input is text");
+        let handle = match side {
+            Side::Ours => lent.run(fields, &text).expect("the text fits"),
+            Side::Rust => {
+                let policy = judge(text.as_bytes(), fields).expect("the text is a policy");
+                run_rust(fields, &policy).1
+            }
+        };
+        println!("{handle}");
+    }
 }

@@ -25,6 +25,7 @@ impl Lent {
     }
 
     /// A policy's handle in a new store; reading the text is part of it.
+    #[inline(never)]
     pub fn run(&mut self, fields: u32, text: &str) -> Result<u32, PolicyRefusal> {
         packet_store::new(&mut self.relations, &mut self.sets, &mut self.work, fields)?;
         packet_store::policy(&mut self.relations, &self.sets, &mut self.work, text.as_bytes())
@@ -37,6 +38,7 @@ impl Lent {
 }
 
 /// A policy's handle in a new store of the Rust, whose memory is given back after the time is taken.
+#[inline(never)]
 pub fn run_rust(fields: u32, policy: &Policy) -> (SPPstore, u32) {
     let mut store = SPPstore::new(fields);
     let handle = policy::build(policy, &mut store).0;
@@ -50,7 +52,8 @@ pub fn timed<T>(work: impl FnOnce() -> T) -> (T, Duration) {
     (given, start.elapsed())
 }
 
-pub fn median(mut numbers: Vec<f64>) -> f64 {
+pub fn median(numbers: impl Iterator<Item = f64>) -> f64 {
+    let mut numbers: Vec<f64> = numbers.collect();
     numbers.sort_by(f64::total_cmp);
     numbers[numbers.len() / 2]
 }

@@ -9,9 +9,10 @@ struct Word {
     width: u32,
 }
 
-/// A policy text over this many fields, of at least so many bytes.
+/// A policy text over this many fields, of at least so many bytes, seldom more than two times as many.
 pub fn text(fields: u32, least: usize, random: &mut Random) -> String {
     let words = words(fields, random);
+    let least = least + random.below(least as u32) as usize;
     let mut parts: Vec<String> = vec![];
     while parts.iter().map(String::len).sum::<usize>() < least {
         let mut writer = Writer { words: &words, random };
