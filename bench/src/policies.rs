@@ -1,6 +1,6 @@
 //! Whole policies from `new` on, the proved store beside the Rust.
 
-use crate::sides::{median, run_rust, timed, Lent};
+use crate::sides::{median, run_rust, timed, Lent, MOST_PLACES};
 use crate::tables;
 use oracle::policy::{judge, Policy};
 use oracle::random::Random;
@@ -30,7 +30,7 @@ const CHOOSING: usize = 256 << 10;
 /// Different policies that fit 4,096 places, the same for the same seed.
 pub fn draw(seed: u64, what: Draw) -> Vec<Drawn> {
     let mut random = Random::new(seed);
-    let mut lent = Lent::new(CHOOSING);
+    let mut lent = Lent::new(MOST_PLACES, CHOOSING);
     let mut seen = HashSet::new();
     let mut drawn = vec![];
     while drawn.len() < what.count {
@@ -71,7 +71,7 @@ fn spread(title: &str, numbers: impl Iterator<Item = f64> + Clone) -> String {
 
 /// The times of each round; the round before them only warms up.
 fn rounds(drawn: &[Drawn], fields: u32, works: &[usize]) -> Vec<Vec<f64>> {
-    let mut lents: Vec<Lent> = works.iter().map(|&bytes| Lent::new(bytes)).collect();
+    let mut lents: Vec<Lent> = works.iter().map(|&bytes| Lent::new(MOST_PLACES, bytes)).collect();
     one_round(drawn, fields, &mut lents, 0);
     (1..=ROUNDS).map(|round| one_round(drawn, fields, &mut lents, round)).collect()
 }
@@ -106,7 +106,7 @@ pub enum Side {
 
 /// Runs the texts of standard input once on one side, for a profiler.
 pub fn once(side: Side, fields: u32) {
-    let mut lent = Lent::new(CHOOSING);
+    let mut lent = Lent::new(MOST_PLACES, CHOOSING);
     for line in std::io::stdin().lines() {
         let text = line.expect("standard input is text");
         let handle = match side {

@@ -15,11 +15,11 @@ pub struct Lent {
 }
 
 impl Lent {
-    /// Room for 4,096 nodes of each kind, and working memory of so many bytes.
-    pub fn new(work_bytes: usize) -> Lent {
+    /// Room for so many nodes of each kind, and working memory of so many bytes.
+    pub fn new(places: usize, work_bytes: usize) -> Lent {
         Lent {
-            relations: vec![0; relations_len(MOST_PLACES)],
-            sets: vec![0; sets_len(MOST_PLACES)],
+            relations: vec![0; relations_len(places)],
+            sets: vec![0; sets_len(places)],
             work: vec![0; work_bytes / 4],
         }
     }
@@ -28,6 +28,11 @@ impl Lent {
     #[inline(never)]
     pub fn run(&mut self, fields: u32, text: &str) -> Result<u32, PolicyRefusal> {
         packet_store::new(&mut self.relations, &mut self.sets, &mut self.work, fields)?;
+        self.policy(text)
+    }
+
+    /// A policy's handle in the store held.
+    pub fn policy(&mut self, text: &str) -> Result<u32, PolicyRefusal> {
         packet_store::policy(&mut self.relations, &self.sets, &mut self.work, text.as_bytes())
     }
 

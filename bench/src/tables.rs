@@ -21,6 +21,14 @@ pub fn text(fields: u32, least: usize, random: &mut Random) -> String {
     parts.join(if random.once_in(3) { ";" } else { "+" })
 }
 
+/// A table of so many rules that match one word and rewrite another.
+pub fn rules(fields: u32, count: u32, random: &mut Random) -> String {
+    let words = words(fields, random);
+    let mut writer = Writer { words: &words, random };
+    let [from, to] = [writer.word(), writer.word()];
+    writer.sum(count, from, to)
+}
+
 /// The words of a header: runs of 2 to 5 fields, one after another, a few fields between them left out.
 fn words(fields: u32, random: &mut Random) -> Vec<Word> {
     let mut words = vec![];
@@ -89,6 +97,10 @@ impl Writer<'_> {
     /// A sum of 2 rules to so many.
     fn rules(&mut self, most: u32, from: Word, to: Word) -> String {
         let count = 2 + self.random.below(most - 1);
+        self.sum(count, from, to)
+    }
+
+    fn sum(&mut self, count: u32, from: Word, to: Word) -> String {
         let rules: Vec<String> = (0..count).map(|_| self.rule(from, to)).collect();
         rules.join("+")
     }
