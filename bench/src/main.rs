@@ -1,0 +1,91 @@
+//! Times the proved store beside the Rust; README.md says what each command prints.
+
+mod calls;
+mod lister;
+mod policies;
+mod sides;
+mod stack;
+mod tables;
+
+use policies::{Draw, Side};
+use std::env;
+use std::path::Path;
+use std::process::ExitCode;
+
+/// The policies of the first table: k = 32, from 1,000 bytes and 1,000 relation nodes on.
+const LARGE: Draw = Draw { fields: 32, count: 200, bytes: 1000, nodes: 1000 };
+const LARGE_WORKS: [usize; 3] = [64 << 10, 256 << 10, 1 << 20];
+
+/// The policies of small k, for which no working memory is needed.
+const SMALL: [u32; 4] = [2, 4, 6, 8];
+const SMALL_WORKS: [usize; 3] = [0, 64 << 10, 256 << 10];
+
+const CALL_WORKS: [usize; 2] = [64 << 10, 256 << 10];
+
+fn main() -> ExitCode {
+    let words: Vec<String> = env::args().skip(1).collect();
+    let words: Vec<&str> = words.iter().map(String::as_str).collect();
+    match words[..] {
+        [] => tables(1),
+        ["policies", seed] => large(number(seed)),
+        ["small", seed] => small(number(seed)),
+        ["calls", seed] => calls(number(seed)),
+        ["stack", seed] => stack(number(seed)),
+        ["lister", seed] => lister(number(seed)),
+        ["texts", seed, count] => texts(number(seed), number(count) as usize),
+        ["once", "ours"] => policies::once(Side::Ours, LARGE.fields),
+        ["once", "rust"] => policies::once(Side::Rust, LARGE.fields),
+        _ => {
+            eprintln!(
+                "usage: bench [policies SEED | small SEED | calls SEED | stack SEED | lister SEED | texts SEED COUNT | once (ours | rust)]"
+            );
+            return ExitCode::from(2);
+        }
+    }
+    ExitCode::SUCCESS
+}
+
+fn number(word: &str) -> u64 {
+    word.parse().unwrap_or_else(|_| panic!("{word} is no number"))
+}
+
+/// All tables.
+fn tables(seed: u64) {
+    large(seed);
+    small(seed);
+    calls(seed);
+    stack(seed);
+    lister(seed);
+}
+
+fn large(seed: u64) {
+    println!("{}", policies::table(seed, LARGE, &LARGE_WORKS));
+}
+
+fn small(seed: u64) {
+    for fields in SMALL {
+        let what = Draw { fields, count: 200, bytes: 100, nodes: 0 };
+        println!("{}", policies::table(seed, what, &SMALL_WORKS));
+    }
+}
+
+fn calls(seed: u64) {
+    for work in CALL_WORKS {
+        println!("{}", calls::table(seed, work));
+    }
+}
+
+fn stack(seed: u64) {
+    println!("{}", stack::table(seed, LARGE));
+}
+
+fn lister(seed: u64) {
+    let program = Path::new(env!("CARGO_MANIFEST_DIR")).join("../target/bin/lister");
+    println!("{}", lister::table(seed, &program));
+}
+
+fn texts(seed: u64, count: usize) {
+    for drawn in policies::draw(seed, Draw { count, ..LARGE }) {
+        println!("{}", drawn.text);
+    }
+}
