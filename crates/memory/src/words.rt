@@ -144,11 +144,12 @@ fn set_word(words: &[u32], x: &[u32]) -> u32
         return 0;
     }
     let r = shared(v0, v1);
+    let l = r.level + 1;
     word_of(crate::Properties {
         empty: r.empty,
         universal: r.universal,
         identity: false,
-        level: r.level + 1,
+        level: l,
     })
 }
 
@@ -175,11 +176,12 @@ fn relation_word(words: &[u32], x: &[u32]) -> u32
     }
     let on = shared(v00, v11);
     let off = shared(v01, v10);
+    let l = on.level + 1;
     word_of(crate::Properties {
         empty: both(on.empty, off.empty),
         universal: both(on.universal, off.universal),
         identity: both(on.identity, off.empty),
-        level: on.level + 1,
+        level: l,
     })
 }
 

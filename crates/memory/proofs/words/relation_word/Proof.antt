@@ -21,14 +21,13 @@ returns-3 c = gathers-nothing _ _ (omega arith)
 returns-4 : tie.Need-returns-4
 returns-4 c = gathers-nothing _ _ (omega arith)
 
-add-t10 : tie.Need-add-t10
-add-t10 c = omega (arith, ap (λ (r : Properties). r .level) (c .before .before .before .before .before .shared .ensures))
+add-l : tie.Need-add-l
+add-l c = omega (arith, ap (λ (r : Properties). r .level) (c .before .before .shared .ensures))
 
 returns-5 : tie.Need-returns-5
 returns-5 c =
     let c3 = c .before .before .before in
-    let c4 = c3 .before in
-    let c5 = c4 .before in
+    let c5 = c3 .before .before in
     let c6 = c5 .before in
     let c7 = c6 .before in
     let c8 = c7 .before in
@@ -44,7 +43,7 @@ returns-5 c =
     (λ k S F W. c17 .handle-word .ensures rel k S refl F W) (λ k S F W. c15 .handle-word2 .ensures rel k S refl F W)
     (λ k S F W. c13 .handle-word3 .ensures rel k S refl F W) (λ k S F W. c11 .handle-word4 .ensures rel k S refl F W)
     (omega arith) (c9 .if2 .left) (c8 .if3 .left) (c7 .if4 .left)
-    (λ p. c .word-of .ensures p ∙ relation-properties (c4 .both .ensures) (c3 .both2 .ensures) (c .before .before .both3 .ensures)
+    (λ p. c .word-of .ensures p ∙ relation-properties (c3 .both .ensures) (c .before .before .both2 .ensures) (c .before .both3 .ensures)
     (c6 .shared .ensures) (c5 .shared2 .ensures))
 
 pub relation-word-spec : {M : Type 1} → statement M
@@ -65,9 +64,9 @@ relation-word-spec =
     returns-4
     (λ c κs. search needs)
     (λ c κs. search needs)
+    add-l
     (λ c κs. search needs)
     (λ c κs. search needs)
     (λ c κs. search needs)
-    add-t10
     (λ c κs. search needs)
     returns-5)

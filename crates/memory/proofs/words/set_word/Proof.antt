@@ -17,8 +17,8 @@ returns c = gathers-nothing _ _ (omega arith)
 returns-2 : tie.Need-returns-2
 returns-2 c = gathers-nothing _ _ (omega arith)
 
-add-t7 : tie.Need-add-t7
-add-t7 c = omega (arith, ap (λ (r : Properties). r .level) (c .before .shared .ensures))
+add-l : tie.Need-add-l
+add-l c = omega (arith, ap (λ (r : Properties). r .level) (c .before .shared .ensures))
 
 returns-3 : tie.Need-returns-3
 returns-3 c =
@@ -43,6 +43,6 @@ set-word-spec =
     returns
     returns-2
     (λ c κs. search needs)
-    add-t7
+    add-l
     (λ c κs. search needs)
     returns-3)
