@@ -21,14 +21,13 @@ use Rattle.nodes.proofs.Signs.{with-sign-zero}
 use Rattle.nodes.proofs.Tests.{low-level}
 use Rattle.memory.specs.Arena.{arena, Done}
 use Rattle.memory.specs.Finding.{Search, Finds, Entered}
-use Rattle.memory.specs.Noting.{Noted}
-use Rattle.memory.specs.Noting.{LevelIs}
+use Rattle.memory.specs.Noting.{Written, Noted, Gathers, LevelIs}
 use Rattle.memory.specs.Rows.{row, places, plain}
-use Rattle.memory.specs.Working.{Indexed, Right}
+use Rattle.memory.specs.Working.{properties-in, Words, Indexed, Right}
 use Rattle.memory.proofs.Joining.{join-new}
 use Rattle.memory.proofs.Rows.{row-at, row-part, row-length, place-fits, rows-snoc, plain-length, plain-at}
 use Rattle.memory.proofs.Steps.{false≢true}
-use Rattle.judging.specs.Judging.{ChildFits, NodeFits, Tests, FitsNext, Start, Judged}
+use Rattle.judging.specs.Judging.{ChildFits, NodeFits, Tests, Earlier, LevelAbove, Above, FitsNext, Start, Judged}
 
 -- TESTS
 module _ {P : Type 0} where
@@ -53,47 +52,46 @@ pub child-level : (K : Kind) (B : Store) (m : List ℕ) {k : ℕ} (i h : ℕ) �
     → (l : ℕ) × (l ≤ k) × Held K (plain K B m i) l h
 child-level K B m i h F b = held-at K h F (early-held K (plain K B m i) h i (plain-length K B m i) b)
 
-module _ {K : Kind} {B : Store} {m : List ℕ} {c : ℕ} (k i l d : ℕ) (e : c ≡ arity K) where
-  pub child-late : ¬ (getD m (c * i + d) 0 < handle-of K 0 i) → ChildFits K B m i l d → ⊥
-  child-late o f = o (subst (λ c. getD m (c * i + d) 0 < handle-of K 0 i) (sym e) (f .earlier))
+module _ (K : Kind) (B : Store) (m : List ℕ) (c k i d r : ℕ) (e : c ≡ arity K) (p : i ≤ places c m) (L : LevelIs m c k (getD m (c * i + d) 0) r) where
+  -- the level that the walk finds
+  pub child-found : (l : ℕ) → l ≤ k → Held K (plain K B m i) l (getD m (arity K * i + d) 0) → r ≡ l
+  child-found l t A = L K B i l e p (subst (λ c. Held K (plain K B m i) l (getD m (c * i + d) 0)) (sym e) A) t
 
-  module _ (r : ℕ) (p : i ≤ places c m) (t : l ≤ k) (L : LevelIs m c k (getD m (c * i + d) 0) r) where
-    pub child-apart : ¬ (r ≡ l) → ChildFits K B m i l d → ⊥
-    child-apart o f = o (L K B i l e p (subst (λ c. Held K (plain K B m i) l (getD m (c * i + d) 0)) (sym e) (f .held)) t)
+  pub child-held : WellFormed k (plain K B m i) → Earlier K m i → d < arity K → Held K (plain K B m i) r (getD m (arity K * i + d) 0)
+  child-held F E h =
+      let a = child-level K B m i (getD m (arity K * i + d) 0) F (E d h) in
+      subst (λ l. Held K (plain K B m i) l (getD m (arity K * i + d) 0)) (sym (child-found (a .0) (a .1) (a .2))) (a .2)
 
-    pub child-fine : WellFormed k (plain K B m i) → getD m (c * i + d) 0 < handle-of K 0 i → r ≡ l → ChildFits K B m i l d
-    child-fine F b q =
-        let h = getD m (c * i + d) 0 in
-        let a = child-level K B m i h F b in
-        let s : a .0 ≡ l = sym (L K B i (a .0) e p (a .2) (a .1)) ∙ q in
-        record {
-          earlier = subst (λ c. getD m (c * i + d) 0 < handle-of K 0 i) e b;
-          held = subst (λ c. Held K (plain K B m i) l (getD m (c * i + d) 0)) e (subst (λ l. Held K (plain K B m i) l h) s (a .2));
-        }
+pub first-is : (m : List ℕ) (c k i r : ℕ) → LevelIs m c k (getD m (c * i) 0) r → LevelIs m c k (getD m (c * i + 0) 0) r
+first-is m c k i r L = subst (λ j. LevelIs m c k (getD m j 0) r) (sym (add-zero (c * i))) L
+
+-- the children share no level below k
+pub level-none : (K : Kind) (B : Store) (m : List ℕ) (k i : ℕ)
+    → ((l : ℕ) → l < k → ((d : ℕ) → d < arity K → Held K (plain K B m i) l (getD m (arity K * i + d) 0)) → ⊥) → LevelAbove k K (plain K B m i) m i 0
+level-none K B m k i o = record { so = λ l q. absurd (omega arith); found = λ l b f. absurd (o l b f) }
+
+-- the level in the node's word, where it says something
+pub level-told : (K : Kind) (B : Store) (m : List ℕ) (k i v r : ℕ) → 0 < v → r ≡ properties-in v .level → WellFormed k (plain K B m i) → Earlier K m i
+    → Above K (plain K B m i) m i v → LevelAbove k K (plain K B m i) m i r
+level-told K B m k i v r p e F E A = record {
+  so = λ l q b d h.
+      let a = child-level K B m i (getD m (arity K * i + d) 0) F (E d h) in
+      let z : a .0 ≡ l = omega (arith, A p d (a .0) h (a .2)) in
+      subst (λ l. Held K (plain K B m i) l (getD m (arity K * i + d) 0)) z (a .2);
+  found = λ l b f. e ∙ A p 0 l (arity-pos K) (f 0 (arity-pos K));
+}
 
 -- A NODE that fits
 pub row-first : (K : Kind) (m : List ℕ) (c i : ℕ) → c ≡ arity K → getD (row (arity K) m i) 0 0 ≡ getD m (c * i) 0
 row-first K m c i e = row-at (arity K) m i 0 (arity-pos K) ∙ ap (λ c. getD m (c * i + 0) 0) (sym e) ∙ ap (λ j. getD m j 0) (add-zero (c * i))
 
-module _ {K : Kind} {B : Store} {m : List ℕ} {k c i : ℕ} (e : c ≡ arity K) (N : NodeFits k K B m i) where
-  first : ChildFits K B m i (N .level) 0
-  first = N .below 0 (arity-pos K)
+-- the level above the children's of a node that fits
+pub node-above : {K : Kind} {B : Store} {m : List ℕ} {k i r : ℕ} → LevelAbove k K (plain K B m i) m i r → (N : NodeFits k K B m i) → r ≡ N .level + 1
+node-above A N = A .found (N .level) (N .under) (λ d h. N .below d h .held)
 
-  first-at : getD m (arity K * i + 0) 0 ≡ getD m (c * i) 0
-  first-at = ap (λ c. getD m (c * i + 0) 0) (sym e) ∙ ap (λ j. getD m j 0) (add-zero (c * i))
-
-  pub node-early : getD m (c * i) 0 < handle-of K 0 i
-  node-early = subst (λ h. h < handle-of K 0 i) first-at (first .earlier)
-
-  module _ (l : ℕ) (p : i ≤ places c m) (L : LevelIs m c k (getD m (c * i) 0) l) where
-    node-level : l ≡ N .level
-    node-level = L K B i (N .level) e p (subst (Held K (plain K B m i) (N .level)) first-at (first .held)) (omega (arith, N .under))
-
-    pub node-under : l < k
-    node-under = omega (arith, node-level, N .under)
-
-    pub node-below : (d : ℕ) → d < arity K → ChildFits K B m i l d
-    node-below = subst (λ l. (d : ℕ) → d < arity K → ChildFits K B m i l d) (sym node-level) (N .below)
+pub node-below : {K : Kind} {B : Store} {m : List ℕ} {k i : ℕ} (r l : ℕ) → r ≡ l + 1 → l < k → LevelAbove k K (plain K B m i) m i r → Earlier K m i
+    → (d : ℕ) → d < arity K → ChildFits K B m i l d
+node-below r l q u A E d h = record { earlier = E d h; held = A .so l q u d h }
 
 -- the search of row i, as a part of the slice, among those before it
 pub part-fits : (c : ℕ) (m : List ℕ) (i : ℕ) → c * i + c ≤ length m → length (take (c * i + c - c * i) (drop (c * i) m)) * i ≤ length m
@@ -200,25 +198,48 @@ module _ {K : Kind} {B : Store} {m w w₁ w₂ : List ℕ} {k i : ℕ} (l : i < 
 abbrev pub AllGood : ℕ → ℕ → ℕ → List ℕ → List ℕ → List ℕ → ℕ → Type 0
 AllGood c n k m w₀ w i = (K : Kind) (B : Store) → c ≡ arity K → n ≤ places c m → Start k K B m w₀ → Good k K B m w i
 
-module _ (c n k i : ℕ) (m w₀ w : List ℕ) (A : AllGood c n k m w₀ w i) where
-  pub all-next : (r : Bool) (w₁ w₂ : List ℕ) → i < n → FitsNext m w c k i r → r ≡ true
-      → ((K : Kind) → length (take (c * i + c - c * i) (drop (c * i) m)) ≡ arity K → Noted K (take (c * i + c - c * i) (drop (c * i) m)) i w w₁)
+-- the word of node i, from the words of its children
+module _ (K : Kind) (m w : List ℕ) (i v : ℕ) (G : Gathers K (Words w) (row (arity K) m i) v) where
+  pub word-above : (B : Store) (k : ℕ) → Right K B w m i → WellFormed k (plain K B m i) → Above K (plain K B m i) m i v
+  word-above B k R F p d l h A = G .level k (plain K B m i) F (R .words) p d l h (subst (Held K (plain K B m i) l) (sym (row-at (arity K) m i d h)) A)
+
+  pub word-noted : (w′ : List ℕ) → Written K i v w w′ → Noted K (row (arity K) m i) i w w′
+  word-noted w′ W = record { word = v; known = G .known; written = W }
+
+-- the code has node i as a part of the slice
+abbrev PartGathers : List ℕ → List ℕ → ℕ → ℕ → ℕ → Type 0
+PartGathers m w c i v = (K : Kind) → length (take (c * i + c - c * i) (drop (c * i) m)) ≡ arity K
+    → Gathers K (Words w) (take (c * i + c - c * i) (drop (c * i) m)) v
+
+part-row : (K : Kind) (m w : List ℕ) (c i v : ℕ) → c ≡ arity K → c * i + c ≤ length m → PartGathers m w c i v → Gathers K (Words w) (row (arity K) m i) v
+part-row K m w c i v e f G =
+    subst (λ c. Gathers K (Words w) (row c m i) v) e
+    (subst (λ x. length x ≡ arity K → Gathers K (Words w) x v) (row-part c m i) (G K) (row-length c m i f ∙ e))
+
+module _ (c n k i : ℕ) (m w₀ w : List ℕ) (A : AllGood c n k m w₀ w i) (v : ℕ) (W : PartGathers m w c i v) where
+  abbrev gathered : (K : Kind) → c ≡ arity K → i < places c m → Gathers K (Words w) (row (arity K) m i) v
+  gathered K e h = part-row K m w c i v e (place-fits c m i h) W
+
+  pub all-next : (r : Bool) (w₁ w₂ : List ℕ) → i < n → FitsNext m w c k i v r → r ≡ true → ((K : Kind) → c ≡ arity K → Written K i v w w₁)
       → Entered (row c m) i w₁ w₂ → AllGood c n k m w₀ w₂ (i + 1)
   all-next r w₁ w₂ l F q N E K B e p S =
       let G = A K B e p S in
       let h : i < places c m = omega arith in
-      let u = row-length c m i (place-fits c m i h) in
-      let x : Noted K (row c m i) i w w₁ = subst (λ x. length x ≡ arity K → Noted K x i w w₁) (row-part c m i) (N K) (u ∙ e) in
-      good-next (subst (λ c. i < places c m) e h) G (F K B e h (G .right) (G .formed) .so q) (subst (λ c. Noted K (row c m i) i w w₁) e x)
-      (subst (λ c. Entered (row c m) i w₁ w₂) e E)
+      let g = gathered K e h in
+      good-next (subst (λ c. i < places c m) e h) G (F K B e h (G .right) (G .formed) (word-above K m w i v g B k (G .right) (G .formed)) .so q)
+      (word-noted K m w i v g w₁ (N K e)) (subst (λ c. Entered (row c m) i w₁ w₂) e E)
 
-  pub judged-no : (r : Bool) → i < n → length w ≡ length w₀ → FitsNext m w c k i r → r ≡ false → Judged c n k m w₀ w false
+  pub judged-no : (r : Bool) → i < n → length w ≡ length w₀ → FitsNext m w c k i v r → r ≡ false → Judged c n k m w₀ w false
   judged-no r l z F q = record {
     right = λ K B e p S t. absurd (false≢true t);
-    verdict = λ K B e p S. says-no (λ W. let G = A K B e p S in F K B e (omega arith) (G .right) (G .formed) .not q (formed-node l (G .formed) W));
+    verdict = λ K B e p S. says-no (λ W.
+        let G = A K B e p S in
+        let h : i < places c m = omega arith in
+        F K B e h (G .right) (G .formed) (word-above K m w i v (gathered K e h) B k (G .right) (G .formed)) .not q (formed-node l (G .formed) W));
     wide = z;
   }
 
+module _ (c n k i : ℕ) (m w₀ w : List ℕ) (A : AllGood c n k m w₀ w i) where
   pub judged-yes : i ≡ n → length w ≡ length w₀ → Judged c n k m w₀ w true
   judged-yes q z = record {
     right = λ K B e p S t. subst (Right K B w m) q (A K B e p S .right);

@@ -9,7 +9,7 @@ use Rattle.nodes.specs.Store.{Kind, set, rel, arity, Store, handle-of}
 use Rattle.nodes.specs.WellFormed.{Held, Even, WellFormed}
 use Rattle.memory.specs.Rows.{row, places, plain}
 use Rattle.memory.specs.Arena.{other}
-use Rattle.memory.specs.Working.{Right}
+use Rattle.memory.specs.Working.{properties-in, Right}
 use Rattle.judging.specs.Memory.{fields, Memories, memory, count, body, decode}
 use Rattle.judging.specs.Valid.{Room, store?}
 
@@ -31,12 +31,30 @@ pub record Tests (r : Bool) (P : Type 0) : Type 0 where
   pub so : r ≡ true → P
   pub not : r ≡ false → P → ⊥
 
-abbrev pub ChildrenFit : List ℕ → ℕ → ℕ → ℕ → ℕ → Bool → Type 0
-ChildrenFit m c k i l r = (K : Kind) (B : Store) → c ≡ arity K → i ≤ places c m → l ≤ k → WellFormed k (plain K B m i)
-    → Tests r ((d : ℕ) → d < arity K → ChildFits K B m i l d)
+-- each child of the node at place i stands earlier
+abbrev pub Earlier : Kind → List ℕ → ℕ → Type 0
+Earlier K m i = (d : ℕ) → d < arity K → getD m (arity K * i + d) 0 < handle-of K 0 i
 
-abbrev pub FitsNext : List ℕ → List ℕ → ℕ → ℕ → ℕ → Bool → Type 0
-FitsNext m w c k i r = (K : Kind) (B : Store) → c ≡ arity K → i < places c m → Right K B w m i → WellFormed k (plain K B m i) → Tests r (NodeFits k K B m i)
+-- r is one above the level below k that the children of the node at place i share; one above none where they share none
+pub record LevelAbove (k : ℕ) (K : Kind) (S : Store) (m : List ℕ) (i r : ℕ) : Type 0 where
+  pub so : (l : ℕ) → r ≡ l + 1 → l < k → (d : ℕ) → d < arity K → Held K S l (getD m (arity K * i + d) 0)
+  pub found : (l : ℕ) → l < k → ((d : ℕ) → d < arity K → Held K S l (getD m (arity K * i + d) 0)) → r ≡ l + 1
+
+abbrev pub LevelWalked : List ℕ → ℕ → ℕ → ℕ → ℕ → Type 0
+LevelWalked m c k i r = (K : Kind) (B : Store) → c ≡ arity K → i ≤ places c m → WellFormed k (plain K B m i) → Earlier K m i
+    → LevelAbove k K (plain K B m i) m i r
+
+-- the property word v, where it says something, has the level above that of each child of the node at place i
+abbrev pub Above : Kind → Store → List ℕ → ℕ → ℕ → Type 0
+Above K S m i v = 0 < v → (d l : ℕ) → d < arity K → Held K S l (getD m (arity K * i + d) 0) → properties-in v .level ≡ l + 1
+
+abbrev pub NodeLevel : List ℕ → ℕ → ℕ → ℕ → ℕ → ℕ → Type 0
+NodeLevel m c k i v r = (K : Kind) (B : Store) → c ≡ arity K → i ≤ places c m → WellFormed k (plain K B m i) → Earlier K m i → Above K (plain K B m i) m i v
+    → LevelAbove k K (plain K B m i) m i r
+
+abbrev pub FitsNext : List ℕ → List ℕ → ℕ → ℕ → ℕ → ℕ → Bool → Type 0
+FitsNext m w c k i v r = (K : Kind) (B : Store) → c ≡ arity K → i < places c m → Right K B w m i → WellFormed k (plain K B m i)
+    → Above K (plain K B m i) m i v → Tests r (NodeFits k K B m i)
 
 -- before the first node: the working memory is right for none of the kind, and the other kind is well formed
 pub record Start (k : ℕ) (K : Kind) (B : Store) (m w : List ℕ) : Type 0 where

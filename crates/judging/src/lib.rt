@@ -7,7 +7,7 @@ ghost use lib.ListN.{length, getD};
 ghost use Rattle.nodes.specs.Store.{Kind, arity, handle-of};
 ghost use Rattle.nodes.specs.WellFormed.{Even};
 ghost use Rattle.judging.specs.Memory.{memories};
-ghost use Rattle.judging.specs.Judging.{Tests, ChildrenFit, FitsNext, Judged, BothJudged, StoreJudged};
+ghost use Rattle.judging.specs.Judging.{Tests, Earlier, LevelWalked, NodeLevel, FitsNext, Judged, BothJudged, StoreJudged};
 
 pub mod commit;
 mod room;
@@ -20,25 +20,53 @@ fn handle_at(c: usize, i: usize) -> usize
     if c == 2 { 2 * (i + 1) } else { i + 2 }
 }
 
-// Whether each child of node i stands earlier, at level l.
-fn children_fit(nodes: &[u32], c: usize, k: u32, i: usize, l: u32) -> bool
+// Whether each child of node i stands earlier.
+fn children_earlier(nodes: &[u32], c: usize, i: usize) -> bool
     requires { ⌜ (0 < c) × (c * i + c ≤ length (now nodes)) × (i < 4096) ⌝ }
-    ensures { λ r. ⌜ ChildrenFit (now (nodes .entry)) c k i l r ⌝ }
+    ensures { λ r. ⌜ ((K : Kind) → c ≡ arity K → Tests r (Earlier K (now (nodes .entry)) i)) ⌝ }
 {
     let s = c * i;
     let most = handle_at(c, i);
     let mut d = 0;
     while d < c {
-        let h = nodes[s + d];
-        if memory::wide(h) >= most {
-            return false;
-        }
-        if memory::words::level(nodes, c, k, h) != l {
+        if memory::wide(nodes[s + d]) >= most {
             return false;
         }
         d += 1;
     }
     true
+}
+
+// The level of node i, one above its children's, by walking down from each; 0 where they share none below k.
+fn level_walked(nodes: &[u32], c: usize, k: u32, i: usize) -> u32
+    requires { ⌜ (0 < c) × (c * i + c ≤ length (now nodes)) × (i < 4096) ⌝ }
+    ensures { λ r. ⌜ LevelWalked (now (nodes .entry)) c k i r ⌝ }
+{
+    let s = c * i;
+    let l = memory::words::level(nodes, c, k, nodes[s]);
+    if l >= k {
+        return 0;
+    }
+    let mut d = 0;
+    while d < c {
+        if memory::words::level(nodes, c, k, nodes[s + d]) != l {
+            return 0;
+        }
+        d += 1;
+    }
+    l + 1
+}
+
+// The same, read in the node's word where that says something.
+fn node_level(nodes: &[u32], c: usize, k: u32, i: usize, word: u32) -> u32
+    requires { ⌜ (0 < c) × (c * i + c ≤ length (now nodes)) × (i < 4096) ⌝ }
+    ensures { λ r. ⌜ NodeLevel (now (nodes .entry)) c k i word r ⌝ }
+{
+    if word != 0 {
+        let p = memory::words::properties_in(word);
+        return p.level;
+    }
+    level_walked(nodes, c, k, i)
 }
 
 // Whether a node with this first child may have it: a set's is even.
@@ -51,25 +79,24 @@ fn first_even(c: usize, x0: u32) -> bool
     true
 }
 
-// Whether node i may follow those before it.
-fn node_fits(nodes: &[u32], work: &[u32], c: usize, k: u32, i: usize) -> bool
+// Whether node i, of this property word, may follow those before it.
+fn node_fits(nodes: &[u32], work: &[u32], c: usize, k: u32, i: usize, word: u32) -> bool
     requires { ⌜ (0 < c) × (c * i + c ≤ length (now nodes)) × (i < 4096) ⌝ }
-    ensures { λ r. ⌜ FitsNext (now (nodes .entry)) (now (work .entry)) c k i r ⌝ }
+    ensures { λ r. ⌜ FitsNext (now (nodes .entry)) (now (work .entry)) c k i word r ⌝ }
 {
     let s = c * i;
     let e = s + c;
-    let x0 = nodes[s];
-    if memory::wide(x0) >= handle_at(c, i) {
+    if !children_earlier(nodes, c, i) {
         return false;
     }
-    let l = memory::words::level(nodes, c, k, x0);
-    if l >= k {
+    let l = node_level(nodes, c, k, i, word);
+    if l == 0 {
         return false;
     }
-    if !children_fit(nodes, c, k, i, l) {
+    if l > k {
         return false;
     }
-    if !first_even(c, x0) {
+    if !first_even(c, nodes[s]) {
         return false;
     }
     let j = memory::index::find(nodes, work, i, &nodes[s..e]);
@@ -83,12 +110,13 @@ fn nodes_fit(nodes: &[u32], work: &mut [u32], c: usize, k: u32, n: usize) -> boo
 {
     let mut i = 0;
     while i < n {
-        if !node_fits(nodes, work, c, k, i) {
-            return false;
-        }
         let s = c * i;
         let e = s + c;
-        memory::words::note(work, &nodes[s..e], i);
+        let word = memory::words::gather(work, &nodes[s..e]);
+        if !node_fits(nodes, work, c, k, i, word) {
+            return false;
+        }
+        memory::words::write(work, c, i, word);
         memory::index::enter(nodes, work, c, i);
         i += 1;
     }

@@ -72,6 +72,7 @@ known-later {S = S} {S′ = S′} J i v F E l f z n A =
       empty = agrees-kept _ J (a .0) h E (a .2) ∙ b .empty;
       universal = agrees-kept _ J (a .0) h E (a .2) ∙ b .universal;
       identity = λ q. agrees-kept _ J (a .0) h E (a .2) ∙ b .identity q;
+      level = b .level;
     })
 
 -- MORE FIELDS do no harm

@@ -1,15 +1,17 @@
 -- Property words: what the words of the constants, of a set's other handle, of a node at its place and of a node from its children's say.
-use mathlib.Core.Path.{_≡_, refl, ap, _∙_, subst}
+use mathlib.Core.Path.{_≡_, refl, sym, ap, _∙_, subst}
+use mathlib.Core.Logic.{_⊎_, inl, inr}
 use mathlib.Core.List.{List, _∷_}
 use mathlib.Core.Bool.{Bool, true, false, _&&_}
-use Prim.Native.Nat.{ℕ, zero, suc, _+_, _-_, _%_, _<_, _≤_}
+use Prim.Native.Nat.{ℕ, zero, suc, _+_, _-_, _*_, _/_, _%_, _<_, _≤_, min}
 use native.Mathlib.Omega.{arith}
 use native.Mathlib.Numerals.{add-one}
-use lib.ListN.{length, getD}
+use lib.ListN.{length, getD, take, drop, length-drop}
+use lib.Seq.{getD-take, getD-drop, length-take-le}
 use lib.Dec.{eqb, ltb, T}
 use borrow.Author.Tests.{ltb-true, ltb-false}
-use Rattle.nodes.specs.Store.{Kind, set, rel, arity, Store, nodes, pick, handle-of, get, signed}
-use Rattle.nodes.specs.Programs.{isEmpty, isUniversal, isIdentity, ending, all-below, agrees}
+use Rattle.nodes.specs.Store.{Kind, set, rel, arity, Store, nodes, pick, handle-of, get, child, signed}
+use Rattle.nodes.specs.Programs.{isEmpty, isUniversal, isIdentity, ending, agrees}
 use Rattle.nodes.specs.WellFormed.{Held, WellFormed}
 use Rattle.nodes.proofs.Bools.{by-test, on-digits}
 use Rattle.nodes.proofs.Signs.{signed-twice, index-handle}
@@ -18,21 +20,44 @@ use Rattle.nodes.proofs.Canonical.{formed-sized}
 use Rattle.nodes.proofs.Complements.{signed-held, signed-walk}
 use Rattle.nodes.proofs.Tests.{agrees-walk, walk-agrees}
 use Rattle.memory.specs.Working.{words-at, properties-in, Has, Known, Words}
+use Rattle.memory.specs.Noting.{WordsOf, in-both, Gathers}
 use Rattle.memory.specs.declared.Properties.{Properties}
 
-abbrev pub properties : Bool → Bool → Bool → Properties
-properties e u i = record { empty = e; universal = u; identity = i }
+abbrev pub properties : Bool → Bool → Bool → ℕ → Properties
+properties e u i l = record { empty = e; universal = u; identity = i; level = l }
 
 -- NUMBERS
-pub word-bits : (e u i : Bool) → properties-in (8 + pick e 1 0 + pick u 2 0 + pick i 4 0) ≡ properties e u i
-word-bits true true true = refl
-word-bits true true false = refl
-word-bits true false true = refl
-word-bits true false false = refl
-word-bits false true true = refl
-word-bits false true false = refl
-word-bits false false true = refl
-word-bits false false false = refl
+bit-is : (b : Bool) (n : ℕ) → n ≡ pick b 1 0 → eqb n 1 ≡ b
+bit-is true n e = rw e
+bit-is false n e = rw e
+
+twice : (b : Bool) → pick b 2 0 ≡ 2 * pick b 1 0
+twice true = refl
+twice false = refl
+
+four : (b : Bool) → pick b 4 0 ≡ 4 * pick b 1 0
+four true = refl
+four false = refl
+
+bit-low : (b : Bool) → pick b 1 0 ≤ 1
+bit-low true = omega arith
+bit-low false = omega arith
+
+-- the last bit of a number, by its half
+last-bit : (q n b : ℕ) → q ≡ 2 * n + b → b ≤ 1 → q % 2 ≡ b
+last-bit q n b e i = omega arith
+
+pub word-bits : (l : ℕ) (e u i : Bool) (v : ℕ) → v ≡ 16 * l + 8 + pick e 1 0 + pick u 2 0 + pick i 4 0 → properties-in v ≡ properties e u i l
+word-bits l e u i v q =
+    let a = bit-low e in
+    let b = bit-low u in
+    let c = bit-low i in
+    let s : v ≡ 16 * l + 8 + pick e 1 0 + 2 * pick u 1 0 + 4 * pick i 1 0 = omega (arith, q, twice u, four i) in
+    let x = last-bit (v / 1) (8 * l + 4 + pick u 1 0 + 2 * pick i 1 0) (pick e 1 0) (omega arith) a in
+    let y = last-bit (v / 2) (4 * l + 2 + pick i 1 0) (pick u 1 0) (omega arith) b in
+    let z = last-bit (v / 4) (2 * l + 1) (pick i 1 0) (omega arith) c in
+    let t : v / 16 ≡ l = omega arith in
+    rw (bit-is e _ x, bit-is u _ y, bit-is i _ z, t)
 
 -- a kind by its child count
 pub is-set : (P : Kind → Type 0) → P set → (K : Kind) → 2 ≡ arity K → P K
@@ -44,15 +69,12 @@ is-rel P c n p set e = absurd (n e)
 is-rel P c n p rel e = p
 
 -- THE CONSTANTS
-pub known-zero : (K : Kind) (S : Store) (h v : ℕ) → h ≡ 0 → properties-in v ≡ properties true false false → Known K S h v
+pub known-constant : (K : Kind) (S : Store) (h v : ℕ) → h < 2 → (0 < v → properties-in v ≡ properties (eqb h 0) (eqb h 1) (eqb h 1) 0) → Known K S h v
 unfolding agrees
-known-zero K S h v z e p zero A = rw (e, z) (record { empty = refl; universal = refl; identity = λ k. refl })
-known-zero K S h v z e p (suc l) A = absurd (omega (arith, A .big))
-
-pub known-one : (K : Kind) (S : Store) (h v : ℕ) → h ≡ 1 → properties-in v ≡ properties false true true → Known K S h v
-unfolding agrees
-known-one K S h v z e p zero A = rw (e, z) (record { empty = refl; universal = refl; identity = λ k. refl })
-known-one K S h v z e p (suc l) A = absurd (omega (arith, A .big))
+known-constant K S zero v b e p zero A = rw (e p) (record { empty = refl; universal = refl; identity = λ k. refl; level = refl })
+known-constant K S (suc zero) v b e p zero A = rw (e p) (record { empty = refl; universal = refl; identity = λ k. refl; level = refl })
+known-constant K S (suc (suc h)) v b e p zero A = absurd (omega arith)
+known-constant K S h v b e p (suc l) A = absurd (omega (arith, A .big))
 
 pub known-nothing : {K : Kind} {S : Store} {h : ℕ} (v : ℕ) → v ≡ 0 → Known K S h v
 known-nothing v e p = absurd (omega arith)
@@ -72,15 +94,17 @@ other-agrees {S = S} l h b i F A = both-ways _ _
     (λ t. walk-agrees set l (signed 1 h) S (λ ds. 1 - b) (λ ds D.
     let o = agrees-walk S (λ ds. b) h t D in omega (arith, o, signed-walk h F A D)))
 
-pub known-other : (k : ℕ) (S : Store) (h v r : ℕ) → 0 < v → properties-in r ≡ properties (properties-in v .universal) (properties-in v .empty) false
+pub known-other : (k : ℕ) (S : Store) (h v r : ℕ) → 0 < v
+    → (0 < r → properties-in r ≡ properties (properties-in v .universal) (properties-in v .empty) false (properties-in v .level))
     → WellFormed k S → Known set S h v → Known set S (signed 1 h) r
 known-other k S h v r i e F W p l A =
     let B : Held set S l h = subst (λ (g : ℕ). Held set S l g) (signed-twice 1 h) (signed-held (formed-sized set F) l 1 (signed 1 h) A) in
     let H = W i l B in
-    rw e (record {
+    rw (e p) (record {
       empty = other-agrees l h 1 (omega arith) F B ∙ H .universal;
       universal = other-agrees l h 0 (omega arith) F B ∙ H .empty;
       identity = λ z. absurd (let z : _≡_ {A = ℕ} 0 1 = cc in omega arith);
+      level = H .level;
     })
 
 -- THE WORD AT A PLACE, of the handle without a sign
@@ -88,84 +112,132 @@ handle-big : (K : Kind) (i : ℕ) → 2 ≤ handle-of K 0 i
 handle-big set i = omega arith
 handle-big rel i = omega arith
 
-pub known-at : (K : Kind) (S : Store) (w : List ℕ) (i v : ℕ) → Words w S → (i < 4096 → v ≡ getD w (words-at K (length w) + i) 0) → (4096 ≤ i → v ≡ 0)
-    → Known K S (handle-of K 0 i) v
-known-at K S w i v W f z p zero A = absurd (omega (arith, handle-big K i))
-known-at K S w i v W f z p (suc l) A =
-    let there : i < length (nodes K S) = rw (index-handle K 0 i) at (A .there) in
-    by-test (λ t. Has K S (suc l) (handle-of K 0 i) (properties-in v)) (ltb i 4096)
-    (λ t. let lt = ltb-true i 4096 t in
-    let k : Known K S (handle-of K 0 i) v = rw (f lt) (W K i lt there) in
-    k p (suc l) A) (λ t. known-nothing v (z (ltb-false i 4096 t)) p (suc l) A)
+pub known-at : (K : Kind) (S : Store) (ws : List ℕ) (i : ℕ) → WordsOf K ws S → i < length ws → Known K S (handle-of K 0 i) (getD ws i 0)
+known-at K S ws i W b p zero A = absurd (omega (arith, handle-big K i))
+known-at K S ws i W b p (suc l) A = W i b (rw (index-handle K 0 i) at (A .there)) p (suc l) A
+
+-- the words of one kind, as a part of the working memory
+pub words-part : (K : Kind) (w : List ℕ) (S : Store) (s e : ℕ) → s ≡ min (words-at K (length w)) (length w) → e ≤ length w → e ≤ s + 4096 → Words w S
+    → WordsOf K (take (e - s) (drop s w)) S
+words-part K w S s e q a b W i l t =
+    let z : length (take (e - s) (drop s w)) ≡ e - s = length-take-le (e - s) (drop s w) (omega (arith, length-drop s w)) in
+    let j : s ≡ words-at K (length w) = omega arith in
+    subst (Known K S (handle-of K 0 i)) (sym (getD-take (e - s) (drop s w) i 0 (omega arith) ∙ getD-drop s w i 0 ∙ ap (λ s. getD w (s + i) 0) j))
+    (W K i (omega arith) t)
+
+pub gathers-in : {K : Kind} (w x : List ℕ) (s e r : ℕ) → s ≡ min (words-at K (length w)) (length w) → e ≤ length w → e ≤ s + 4096
+    → Gathers K (WordsOf K (take (e - s) (drop s w))) x r → Gathers K (Words w) x r
+gathers-in {K} w x s e r q a b G = record {
+  known = λ k S h F W. G .known k S h F (words-part K w S s e q a b W);
+  level = λ k S F W. G .level k S F (words-part K w S s e q a b W);
+}
+
+pub gathers-nothing : {K : Kind} {W : Store → Type 0} (x : List ℕ) (r : ℕ) → r ≡ 0 → Gathers K W x r
+gathers-nothing x r e = record { known = λ k S h F w b g. known-nothing r e; level = λ k S F w p. absurd (omega arith) }
 
 -- A NODE, from its children
--- all of the first d children x are as f says of a node that has them
-abbrev below : (List ℕ → ℕ) → Kind → Store → ℕ → List ℕ → ℕ → Bool
-below f K S l x d = all-below d (λ j. agrees (λ ds. f (j ∷ ds)) K l (getD x j 0) S)
+and-two : {a b a′ b′ : Bool} → a ≡ a′ → b ≡ b′ → (a && (b && true)) ≡ (a′ && b′)
+and-two {a} {b} p q = go a b ∙ cc
+  where
+    go : (a b : Bool) → (a && (b && true)) ≡ (a && b)
+    go true true = refl
+    go true false = refl
+    go false b = refl
 
-pub record Folds (K : Kind) (S : Store) (l : ℕ) (x : List ℕ) (d : ℕ) (e u i : Bool) : Type 0 where
-  pub empty : below (ending isEmpty) K S l x d ≡ e
-  pub universal : below (ending isUniversal) K S l x d ≡ u
-  pub identity : K ≡ rel → below (ending isIdentity) K S l x d ≡ i
+and-four : {a b c d a′ b′ c′ d′ : Bool} → a ≡ a′ → b ≡ b′ → c ≡ c′ → d ≡ d′ → (a && (b && (c && (d && true)))) ≡ ((a′ && d′) && (b′ && c′))
+and-four {a} {b} {c} {d} p q r s = go a b c d ∙ cc
+  where
+    go : (a b c d : Bool) → (a && (b && (c && (d && true)))) ≡ ((a && d) && (b && c))
+    go false b c d = refl
+    go true b c false = none b c
+      where
+        none : (b c : Bool) → (b && (c && false)) ≡ false
+        none true true = refl
+        none true false = refl
+        none false c = refl
+    go true true true true = refl
+    go true true false true = refl
+    go true false c true = refl
 
--- e, u and i are what the words of the first d children say
-pub record Gathered (w x : List ℕ) (d : ℕ) (e u i : Bool) : Type 0 where
-  pub low : d ≤ length x
-  pub folds : (K : Kind) (k : ℕ) (S : Store) (l : ℕ) → length x ≡ arity K → WellFormed k S → Words w S
-      → ((j : ℕ) → j < arity K → Held K S l (getD x j 0)) → Folds K S l x d e u i
-
-pub gathered-none : {w x : List ℕ} → Gathered w x 0 true true true
-gathered-none = record { low = omega arith; folds = λ K k S l n F W H. record { empty = refl; universal = refl; identity = λ z. refl } }
-
-and-assoc : (a b c : Bool) → (a && (b && c)) ≡ ((a && b) && c)
-and-assoc true b c = refl
-and-assoc false b c = refl
-
-and-true : (a : Bool) → (a && true) ≡ a
-and-true true = refl
-and-true false = refl
-
-all-below-more : (d : ℕ) (f : ℕ → Bool) → all-below (suc d) f ≡ (all-below d f && f d)
-all-below-more zero f = and-true (f 0)
-all-below-more (suc d) f = ap (λ b. f 0 && b) (all-below-more d (λ j. f (suc j))) ∙ and-assoc (f 0) _ _
+set-has : (S : Store) (l h : ℕ) (a b : Properties) → Has set S l (child set S h 0) a → Has set S l (child set S h 1) b
+    → Has set S (suc l) h (properties (a .empty && b .empty) (a .universal && b .universal) false (a .level + 1))
+unfolding agrees
+set-has S l h a b A B = record {
+  empty = and-two (A .empty) (B .empty);
+  universal = and-two (A .universal) (B .universal);
+  identity = λ z. absurd (let z : _≡_ {A = ℕ} 0 1 = cc in omega arith);
+  level = omega (arith, A .level);
+}
 
 -- on the diagonal the identity's child is the identity, off it the empty relation
-digit : (l g : ℕ) (S : Store) (d : ℕ) → d < 4
-    → agrees (λ ds. ending isIdentity (d ∷ ds)) rel l g S ≡ pick (eqb (d % 3) 0) (agrees (ending isIdentity) rel l g S) (agrees (ending isEmpty) rel l g S)
-digit l g S d i =
-    on-digits (λ d. agrees (λ ds. ending isIdentity (d ∷ ds)) rel l g S
-    ≡ pick (eqb (d % 3) 0) (agrees (ending isIdentity) rel l g S) (agrees (ending isEmpty) rel l g S)) refl refl refl refl d i
+relation-has : (S : Store) (l h : ℕ) (a b c d : Properties) → Has rel S l (child rel S h 0) a → Has rel S l (child rel S h 1) b
+    → Has rel S l (child rel S h 2) c → Has rel S l (child rel S h 3) d
+    → (let on = in-both a d in let off = in-both b c in
+    Has rel S (suc l) h (properties (on .empty && off .empty) (on .universal && off .universal) (on .identity && off .empty) (a .level + 1)))
+unfolding agrees
+relation-has S l h a b c d A B C D = record {
+  empty = and-four (A .empty) (B .empty) (C .empty) (D .empty);
+  universal = and-four (A .universal) (B .universal) (C .universal) (D .universal);
+  identity = λ z. and-four (A .identity refl) (B .empty) (C .empty) (D .identity refl);
+  level = omega (arith, A .level);
+}
 
-pub gathered-more : (w x : List ℕ) (d v : ℕ) (e u i : Bool) (r : Properties) (e′ u′ i′ q : Bool) → d < length x → 0 < v
-    → ((K : Kind) (k : ℕ) (S : Store) → length x ≡ arity K → WellFormed k S → Words w S → Known K S (getD x d 0) v)
-    → Gathered w x d e u i → r ≡ properties-in v → e′ ≡ (e && r .empty) → u′ ≡ (u && r .universal) → q ≡ pick (eqb (d % 3) 0) (r .identity) (r .empty)
-    → i′ ≡ (i && q) → Gathered w x (d + 1) e′ u′ i′
-gathered-more w x d v e u i r e′ u′ i′ q lt p know G er ee eu eq ei = record {
-  low = omega arith;
-  folds = λ K k S l n F W H.
-      let A : Has K S l (getD x d 0) r = rw er (know K k S n F W p l (H d (omega arith))) in
-      let o = G .folds K k S l n F W H in
-      record {
-        empty = rw (add-one, all-below-more d) (cc (o .empty, A .empty));
-        universal = rw (add-one, all-below-more d) (cc (o .universal, A .universal));
-        identity = λ z. rw (add-one, all-below-more d) (cc (o .identity z, diagonal K S l n A z));
-      };
+-- v says nothing wrong of g in stores whose words have W
+abbrev pub Tells : (Store → Type 0) → Kind → ℕ → ℕ → Type 0
+Tells W K g v = (k : ℕ) (S : Store) → WellFormed k S → W S → Known K S g v
+
+-- the child's level, where its word says the same level as the first child's
+shared-level : (K : Kind) (S : Store) (g a v l : ℕ) → 8 ≤ a → v / 8 ≡ a / 8 → Known K S g v → Held K S l g → a / 16 ≡ l
+shared-level K S g a v l o e f A = let h = f (omega arith) l A .level in omega arith
+
+-- what is known of child d of h, where x are its children
+at-child : {K : Kind} {S : Store} {x : List ℕ} (h d v l : ℕ) → 0 < v → Held K S (suc l) h → get K S h ≡ x → d < arity K → Known K S (getD x d 0) v
+    → Has K S l (child K S h d) (properties-in v)
+at-child {K} {S} h d v l p A g i f = subst (λ x. Known K S (getD x d 0) v) (sym g) f p l (A .below d i)
+
+pub set-gathers : (W : Store → Type 0) (x : List ℕ) (v0 v1 r : ℕ) → Tells W set (getD x 0 0) v0 → Tells W set (getD x 1 0) v1 → 8 ≤ v0 → v1 / 8 ≡ v0 / 8
+    → (let p = in-both (properties-in v0) (properties-in v1) in 0 < r → properties-in r ≡ properties (p .empty) (p .universal) false (p .level + 1))
+    → Gathers set W x r
+set-gathers W x v0 v1 r f0 f1 o e1 q = record {
+  known = λ k S h F w b g p. elim [
+    | zero ↦ λ A. absurd (omega arith)
+    | suc l ↦ λ A. rw (q p) (set-has S l h (properties-in v0) (properties-in v1) (at-child h 0 v0 l (omega arith) A g (omega arith) (f0 k S F w))
+        (at-child h 1 v1 l (omega arith) A g (omega arith) (f1 k S F w)))
+  ];
+  level = λ k S F w p d l i A. ap (λ (r : Properties). r .level) (q p) ∙ ap (λ n. n + 1) (elim (pair d i) [
+    | inl z ↦ shared-level set S (getD x 0 0) v0 v0 l o refl (f0 k S F w) (subst (λ d. Held set S l (getD x d 0)) z A)
+    | inr z ↦ shared-level set S (getD x 1 0) v0 v1 l o e1 (f1 k S F w) (subst (λ d. Held set S l (getD x d 0)) z A)
+  ]);
 }
   where
-    diagonal : (K : Kind) (S : Store) (l : ℕ) → length x ≡ arity K → Has K S l (getD x d 0) r → K ≡ rel
-        → agrees (λ ds. ending isIdentity (d ∷ ds)) K l (getD x d 0) S ≡ q
-    diagonal set S l n A z = absurd (let z : _≡_ {A = ℕ} 0 1 = cc in omega arith)
-    diagonal rel S l n A z = digit l (getD x d 0) S d (omega arith) ∙ rw (eq, A .identity refl, A .empty)
+    pair : (d : ℕ) → d < 2 → (d ≡ 0) ⊎ (d ≡ 1)
+    pair zero i = inl refl
+    pair (suc zero) i = inr refl
+    pair (suc (suc d)) i = absurd (omega arith)
 
-pub gathered-all : (w x : List ℕ) (d r : ℕ) (e u i : Bool) → length x ≤ d → Gathered w x d e u i → properties-in r ≡ properties e u i
-    → (K : Kind) (k : ℕ) (S : Store) (h : ℕ) → length x ≡ arity K → WellFormed k S → Words w S → 2 ≤ h → get K S h ≡ x → Known K S h r
-unfolding agrees
-gathered-all w x d r e u i le G q K k S h n F W b g p zero A = absurd (omega arith)
-gathered-all w x d r e u i le G q K k S h n F W b g p (suc l) A =
-    let c : d ≡ arity K = omega (arith, G .low) in
-    let o = G .folds K k S l n F W (λ j t. rw g at (A .below j t)) in
-    rw q (record {
-      empty = rw (g, ← c) (o .empty);
-      universal = rw (g, ← c) (o .universal);
-      identity = λ z. rw (g, ← c) (o .identity z);
-    })
+pub relation-gathers : (W : Store → Type 0) (x : List ℕ) (v00 v01 v10 v11 r : ℕ) → Tells W rel (getD x 0 0) v00 → Tells W rel (getD x 1 0) v01
+    → Tells W rel (getD x 2 0) v10 → Tells W rel (getD x 3 0) v11 → 8 ≤ v00 → v01 / 8 ≡ v00 / 8 → v10 / 8 ≡ v00 / 8 → v11 / 8 ≡ v00 / 8
+    → (let on = in-both (properties-in v00) (properties-in v11) in let off = in-both (properties-in v01) (properties-in v10) in
+    0 < r → properties-in r ≡ properties (on .empty && off .empty) (on .universal && off .universal) (on .identity && off .empty) (on .level + 1))
+    → Gathers rel W x r
+relation-gathers W x v00 v01 v10 v11 r f00 f01 f10 f11 o e01 e10 e11 q = record {
+  known = λ k S h F w b g p. elim [
+    | zero ↦ λ A. absurd (omega arith)
+    | suc l ↦ λ A. rw (q p) (relation-has S l h (properties-in v00) (properties-in v01) (properties-in v10) (properties-in v11)
+        (at-child h 0 v00 l (omega arith) A g (omega arith) (f00 k S F w)) (at-child h 1 v01 l (omega arith) A g (omega arith) (f01 k S F w))
+        (at-child h 2 v10 l (omega arith) A g (omega arith) (f10 k S F w)) (at-child h 3 v11 l (omega arith) A g (omega arith) (f11 k S F w)))
+  ];
+  level = λ k S F w p d l i A. ap (λ (r : Properties). r .level) (q p) ∙ ap (λ n. n + 1) (on-digits (λ d. Held rel S l (getD x d 0) → v00 / 16 ≡ l)
+      (shared-level rel S (getD x 0 0) v00 v00 l o refl (f00 k S F w)) (shared-level rel S (getD x 1 0) v00 v01 l o e01 (f01 k S F w))
+      (shared-level rel S (getD x 2 0) v00 v10 l o e10 (f10 k S F w)) (shared-level rel S (getD x 3 0) v00 v11 l o e11 (f11 k S F w)) d i A);
+}
+
+-- the properties that `relation_word` writes
+pub relation-properties : {on off p q : Properties} {e u i : Bool} → e ≡ (on .empty && off .empty) → u ≡ (on .universal && off .universal)
+    → i ≡ (on .identity && off .empty) → on ≡ p → off ≡ q
+    → properties e u i (on .level + 1) ≡ properties (p .empty && q .empty) (p .universal && q .universal) (p .identity && q .empty) (p .level + 1)
+relation-properties a b c d e = rw (a, b, c, d, e)
+
+pub both-properties : {a b p q : Properties} {e u i : Bool} → e ≡ (a .empty && b .empty) → u ≡ (a .universal && b .universal) → i ≡ (a .identity && b .identity)
+    → a ≡ p → b ≡ q → properties e u i (a .level) ≡ in-both p q
+both-properties x y z f g = rw (x, y, z, f, g)

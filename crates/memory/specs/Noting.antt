@@ -1,31 +1,45 @@
 -- What the functions on property words and on children do; c is the child count of a kind, m the nodes, w the working memory.
 use mathlib.Core.Path.{_≡_}
 use mathlib.Core.List.{List}
-use mathlib.Core.Bool.{Bool}
+use mathlib.Core.Bool.{Bool, _&&_}
 use mathlib.Core.Logic.{_⊎_}
 use Prim.Native.Nat.{ℕ, _+_, _<_, _≤_}
 use lib.ListN.{length, getD, set}
 use lib.Dec.{eqb}
-use Rattle.nodes.specs.Store.{Kind, rel, arity, Store, get}
+use Rattle.nodes.specs.Store.{Kind, rel, arity, Store, nodes, handle-of, get}
 use Rattle.nodes.specs.Programs.{ending, isIdentity, all-below, agrees}
 use Rattle.nodes.specs.WellFormed.{Held, WellFormed}
 use Rattle.nodes.specs.Safety.{Within}
 use Rattle.memory.specs.Rows.{places, plain}
-use Rattle.memory.specs.Working.{words-at, Known, Words}
+use Rattle.memory.specs.Working.{words-at, properties-in, Known, Words}
+use Rattle.memory.specs.declared.Properties.{Properties}
 
--- at most the word of place n changed, and it says nothing wrong of a node x there
+-- at most the word of place n changed, to v
+abbrev pub Written : Kind → ℕ → ℕ → List ℕ → List ℕ → Type 0
+Written K n v w w′ = ((length w ≤ words-at K (length w) + n) × (w′ ≡ w)) ⊎ (w′ ≡ set w (words-at K (length w) + n) v)
+
+-- the word of place n says nothing wrong of a node x there
 pub record Noted (K : Kind) (x : List ℕ) (n : ℕ) (w w′ : List ℕ) : Type 0 where
   pub word : ℕ
   pub known : (k : ℕ) (S : Store) (h : ℕ) → WellFormed k S → Words w S → 2 ≤ h → get K S h ≡ x → Known K S h word
-  pub written : ((length w ≤ words-at K (length w) + n) × (w′ ≡ w)) ⊎ (w′ ≡ set w (words-at K (length w) + n) word)
+  pub written : Written K n word w w′
 
--- the word of the node at place i; there is none from 4,096 on
-abbrev pub WordAt : List ℕ → ℕ → ℕ → ℕ → Type 0
-WordAt w c i r = ((K : Kind) → c ≡ arity K → i < 4096 → r ≡ getD w (words-at K (length w) + i) 0) × (4096 ≤ i → r ≡ 0)
+-- no word of those at ws, one a node of kind K, says anything wrong
+abbrev pub WordsOf : Kind → List ℕ → Store → Type 0
+WordsOf K ws S = (i : ℕ) → i < length ws → i < length (nodes K S) → Known K S (handle-of K 0 i) (getD ws i 0)
 
--- the word r says nothing wrong of a handle with the children x
-abbrev pub Gathers : List ℕ → List ℕ → ℕ → Type 0
-Gathers w x r = (K : Kind) (k : ℕ) (S : Store) (h : ℕ) → length x ≡ arity K → WellFormed k S → Words w S → 2 ≤ h → get K S h ≡ x → Known K S h r
+-- r says nothing wrong of h
+abbrev pub Read : List ℕ → ℕ → ℕ → ℕ → Type 0
+Read ws c h r = (K : Kind) (k : ℕ) (S : Store) → c ≡ arity K → WellFormed k S → WordsOf K ws S → Known K S h r
+
+-- what two handles of one level have both
+abbrev pub in-both : Properties → Properties → Properties
+in-both a b = record { empty = a .empty && b .empty; universal = a .universal && b .universal; identity = a .identity && b .identity; level = a .level }
+
+-- r says nothing wrong of a handle with the children x, in a store whose words have W; where it says something, x share the level below
+pub record Gathers (K : Kind) (W : Store → Type 0) (x : List ℕ) (r : ℕ) : Type 0 where
+  pub known : (k : ℕ) (S : Store) (h : ℕ) → WellFormed k S → W S → 2 ≤ h → get K S h ≡ x → Known K S h r
+  pub level : (k : ℕ) (S : Store) → WellFormed k S → W S → 0 < r → (d l : ℕ) → d < arity K → Held K S l (getD x d 0) → properties-in r .level ≡ l + 1
 
 -- r is child d of h, where h has a node
 abbrev pub ChildOf : List ℕ → ℕ → ℕ → ℕ → ℕ → Type 0

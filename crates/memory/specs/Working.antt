@@ -48,18 +48,19 @@ pub record Chained (node : ℕ → List ℕ) (w : List ℕ) (n : ℕ) : Type 0 w
 abbrev pub Indexed : (ℕ → List ℕ) → List ℕ → ℕ → Type 0
 Indexed node w n = links-at (length w) + 4096 ≤ length w → Chained node w n
 
--- PROPERTY WORDS: 0 says nothing, any other has a bit for each property
+-- PROPERTY WORDS: 0 says nothing, any other has a bit for each property, and the level above them
 abbrev pub bit-at : ℕ → ℕ → Bool
 bit-at b v = eqb (v / b % 2) 1
 
 abbrev pub properties-in : ℕ → Properties
-properties-in v = record { empty = bit-at 1 v; universal = bit-at 2 v; identity = bit-at 4 v }
+properties-in v = record { empty = bit-at 1 v; universal = bit-at 2 v; identity = bit-at 4 v; level = v / 16 }
 
--- r has the properties of h, of level l; sets are not asked for the identity
+-- r has the properties and the level l of h; sets are not asked for the identity
 pub record Has (K : Kind) (S : Store) (l h : ℕ) (r : Properties) : Type 0 where
   pub empty : agrees (ending isEmpty) K l h S ≡ r .empty
   pub universal : agrees (ending isUniversal) K l h S ≡ r .universal
   pub identity : K ≡ rel → agrees (ending isIdentity) K l h S ≡ r .identity
+  pub level : l ≡ r .level
 
 -- the word v says nothing wrong of h
 abbrev pub Known : Kind → Store → ℕ → ℕ → Type 0

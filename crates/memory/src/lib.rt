@@ -14,11 +14,12 @@ pub struct Arena {
     pub h: u32,
 }
 
-// What the Rust's property bits say of a handle.
+// What the Rust's property bits say of a handle, and its level.
 pub struct Properties {
     pub empty: bool,
     pub universal: bool,
     pub identity: bool,
+    pub level: u32,
 }
 
 // What shortcuts or the memo know: the answer, or on which operands the operation goes on.

@@ -1,26 +1,27 @@
 // Property words: what is known of a handle without looking at its nodes, and the walk where nothing is known.
 ghost use mathlib.Core.Path.{_≡_};
 ghost use mathlib.Core.Bool.{Bool, true, false, _&&_};
-ghost use Prim.Native.Nat.{ℕ, _+_, _%_, _<_, _≤_};
+ghost use Prim.Native.Nat.{ℕ, _+_, _<_, _≤_, min};
 ghost use lib.ListN.{length, getD};
-ghost use lib.Dec.{eqb};
 ghost use Rattle.nodes.specs.Store.{Kind, set, rel, arity, Store, pick, index, get, signed};
-ghost use Rattle.nodes.specs.Programs.{agrees, ending, isIdentity, all-below};
 ghost use Rattle.nodes.specs.WellFormed.{Held, WellFormed};
 ghost use Rattle.nodes.specs.Safety.{Within};
 ghost use Rattle.memory.specs.Rows.{places, plain};
-ghost use Rattle.memory.specs.Working.{memo-size, words-at, properties-in, Known, Words};
+ghost use Rattle.memory.specs.Working.{words-at, properties-in, Known, Words};
 ghost use Rattle.memory.specs.Arena.{Tells};
-ghost use Rattle.memory.specs.Noting.{Noted, WordAt, Gathers, ChildOf, ChildrenAre, WalksTo, WalksIdentity, LevelIs};
+ghost use Rattle.memory.specs.Noting.{Written, Noted, WordsOf, Read, in-both, Gathers, ChildOf, ChildrenAre, WalksTo, WalksIdentity, LevelIs};
 
-// A word with these properties.
+// A word with these properties; 0 for a level that it has no room for.
 pub fn word_of(r: crate::Properties) -> u32
-    ensures { λ v. ⌜ (0 < v) × (properties-in v ≡ r) ⌝ }
+    ensures { λ v. ⌜ (0 < v → properties-in v ≡ r) ⌝ }
 {
+    if r.level >= 256 {
+        return 0;
+    }
     let e = if r.empty { 1 } else { 0 };
     let u = if r.universal { 2 } else { 0 };
     let i = if r.identity { 4 } else { 0 };
-    8 + e + u + i
+    16 * r.level + 8 + e + u + i
 }
 
 // The properties in a word.
@@ -31,29 +32,28 @@ pub fn properties_in(v: u32) -> crate::Properties
         empty: v % 2 == 1,
         universal: v / 2 % 2 == 1,
         identity: v / 4 % 2 == 1,
+        level: v / 16,
     }
 }
 
-// How far after the memo the words of nodes of c numbers begin.
-fn words_after(c: usize) -> usize
-    ensures { λ r. ⌜ ((K : Kind) (l : ℕ) → c ≡ arity K → memo-size l + r ≡ words-at K l) × (r ≤ 12288) ⌝ }
+// Where the words of nodes of c numbers begin in a working memory of this length; its end where it has none.
+fn words_start(len: usize, c: usize) -> usize
+    ensures { λ r. ⌜ ((K : Kind) → c ≡ arity K → r ≡ min (words-at K len) len) × (r ≤ len) ⌝ }
 {
-    if c == 2 { 12288 } else { 8192 }
+    let at = crate::index::memo_size(len);
+    let after = if c == 2 { 12288 } else { 8192 };
+    if len - at < after {
+        return len;
+    }
+    at + after
 }
 
-// The word of the node at place i; 0 where there is none.
-fn node_word(work: &[u32], c: usize, i: usize) -> u32
-    ensures { λ r. ⌜ WordAt (now (work .entry)) c i r ⌝ }
+// Where the words that begin at s end.
+fn words_end(len: usize, s: usize) -> usize
+    requires { ⌜ s ≤ len ⌝ }
+    ensures { λ r. ⌜ (s ≤ r) × (r ≤ len) × (r ≤ s + 4096) ⌝ }
 {
-    if i >= 4096 {
-        return 0;
-    }
-    let at = crate::index::memo_size(work.len());
-    let j = words_after(c) + i;
-    if j >= work.len() - at {
-        return 0;
-    }
-    work[at + j]
+    if len - s < 4096 { len } else { s + 4096 }
 }
 
 // The word of a set's other handle.
@@ -68,6 +68,7 @@ fn opposite_word(v: u32) -> u32
         empty: r.universal,
         universal: r.empty,
         identity: false,
+        level: r.level,
     })
 }
 
@@ -84,25 +85,23 @@ pub fn place_of(c: usize, h: u32) -> usize
     crate::wide(h - 2)
 }
 
-// What is known of a handle, as a word.
-pub fn handle_word(work: &[u32], c: usize, h: u32) -> u32
-    ensures { λ r. ⌜ ((K : Kind) (k : ℕ) (S : Store) → c ≡ arity K → WellFormed k S → Words (now (work .entry)) S → Known K S h r) ⌝ }
+// What is known of a handle, as a word, where words are those of its kind's nodes.
+fn handle_word(words: &[u32], c: usize, h: u32) -> u32
+    ensures { λ r. ⌜ Read (now (words .entry)) c h r ⌝ }
 {
-    if h == 0 {
+    if h < 2 {
         return word_of(crate::Properties {
-            empty: true,
-            universal: false,
-            identity: false,
+            empty: h == 0,
+            universal: h == 1,
+            identity: h == 1,
+            level: 0,
         });
     }
-    if h == 1 {
-        return word_of(crate::Properties {
-            empty: false,
-            universal: true,
-            identity: true,
-        });
+    let i = place_of(c, h);
+    if i >= words.len() {
+        return 0;
     }
-    let v = node_word(work, c, place_of(c, h));
+    let v = words[i];
     if c == 2 {
         if h % 2 == 1 {
             return opposite_word(v);
@@ -114,41 +113,103 @@ pub fn handle_word(work: &[u32], c: usize, h: u32) -> u32
 fn both(a: bool, b: bool) -> bool
     ensures { λ r. ⌜ r ≡ (a && b) ⌝ }
 {
-    if a { b } else { false }
+    a & b
 }
 
-// What the identity asks of child d: on the diagonal the identity, off it the empty relation.
-fn asked(d: usize, r: crate::Properties) -> bool
-    ensures { λ q. ⌜ q ≡ pick (eqb (d % 3) 0) (r .identity) (r .empty) ⌝ }
+// What two handles of one level have both.
+fn shared(a: u32, b: u32) -> crate::Properties
+    ensures { λ r. ⌜ r ≡ in-both (properties-in a) (properties-in b) ⌝ }
 {
-    if d % 3 == 0 { r.identity } else { r.empty }
-}
-
-// The word of a node with these children, from theirs; 0 where one is not known.
-fn gather(work: &[u32], x: &[u32]) -> u32
-    ensures { λ r. ⌜ Gathers (now (work .entry)) (now (x .entry)) r ⌝ }
-{
-    let c = x.len();
-    let mut e = true;
-    let mut u = true;
-    let mut i = true;
-    let mut d = 0;
-    while d < c {
-        let v = handle_word(work, c, x[d]);
-        if v == 0 {
-            return 0;
-        }
-        let r = properties_in(v);
-        e = both(e, r.empty);
-        u = both(u, r.universal);
-        i = both(i, asked(d, r));
-        d += 1;
+    let x = properties_in(a);
+    let y = properties_in(b);
+    crate::Properties {
+        empty: both(x.empty, y.empty),
+        universal: both(x.universal, y.universal),
+        identity: both(x.identity, y.identity),
+        level: x.level,
     }
+}
+
+// The word of a set's node with these children, from theirs; 0 where one is not known or their levels differ.
+fn set_word(words: &[u32], x: &[u32]) -> u32
+    requires { ⌜ length (now x) ≡ 2 ⌝ }
+    ensures { λ r. ⌜ Gathers set (WordsOf set (now (words .entry))) (now (x .entry)) r ⌝ }
+{
+    let v0 = handle_word(words, 2, x[0]);
+    let v1 = handle_word(words, 2, x[1]);
+    if v0 < 8 {
+        return 0;
+    }
+    if v1 / 8 != v0 / 8 {
+        return 0;
+    }
+    let r = shared(v0, v1);
+    let l = r.level + 1;
     word_of(crate::Properties {
-        empty: e,
-        universal: u,
-        identity: i,
+        empty: r.empty,
+        universal: r.universal,
+        identity: false,
+        level: l,
     })
+}
+
+// The same of a relation's node. It is the identity where the children on the diagonal are and the others are empty.
+fn relation_word(words: &[u32], x: &[u32]) -> u32
+    requires { ⌜ length (now x) ≡ 4 ⌝ }
+    ensures { λ r. ⌜ Gathers rel (WordsOf rel (now (words .entry))) (now (x .entry)) r ⌝ }
+{
+    let v00 = handle_word(words, 4, x[0]);
+    let v01 = handle_word(words, 4, x[1]);
+    let v10 = handle_word(words, 4, x[2]);
+    let v11 = handle_word(words, 4, x[3]);
+    if v00 < 8 {
+        return 0;
+    }
+    if v01 / 8 != v00 / 8 {
+        return 0;
+    }
+    if v10 / 8 != v00 / 8 {
+        return 0;
+    }
+    if v11 / 8 != v00 / 8 {
+        return 0;
+    }
+    let on = shared(v00, v11);
+    let off = shared(v01, v10);
+    let l = on.level + 1;
+    word_of(crate::Properties {
+        empty: both(on.empty, off.empty),
+        universal: both(on.universal, off.universal),
+        identity: both(on.identity, off.empty),
+        level: l,
+    })
+}
+
+// The word of a node with the children x, from theirs.
+pub fn gather(work: &[u32], x: &[u32]) -> u32
+    ensures { λ r. ⌜ ((K : Kind) → length (now (x .entry)) ≡ arity K → Gathers K (Words (now (work .entry))) (now (x .entry)) r) ⌝ }
+{
+    let s = words_start(work.len(), x.len());
+    let e = words_end(work.len(), s);
+    if x.len() == 2 {
+        return set_word(&work[s..e], x);
+    }
+    if x.len() == 4 {
+        return relation_word(&work[s..e], x);
+    }
+    0
+}
+
+// Writes the word of the node of c numbers at place n.
+pub fn write(work: &mut [u32], c: usize, n: usize, v: u32)
+    requires { ⌜ n < 4096 ⌝ }
+    ensures { λ _. ⌜ ((K : Kind) → c ≡ arity K → Written K n v (now (work .entry)) (now (work .exit))) ⌝ }
+{
+    let s = words_start(work.len(), c);
+    if n >= work.len() - s {
+        return;
+    }
+    work[s + n] = v;
 }
 
 // Notes the word of the node x at place n.
@@ -156,13 +217,8 @@ pub fn note(work: &mut [u32], x: &[u32], n: usize)
     requires { ⌜ n < 4096 ⌝ }
     ensures { λ _. ⌜ ((K : Kind) → length (now (x .entry)) ≡ arity K → Noted K (now (x .entry)) n (now (work .entry)) (now (work .exit))) ⌝ }
 {
-    let at = crate::index::memo_size(work.len());
-    let j = words_after(x.len()) + n;
-    if j >= work.len() - at {
-        return;
-    }
     let v = gather(work, x);
-    work[at + j] = v;
+    write(work, x.len(), n, v);
 }
 
 // Child d of a handle, or 0 where it has no node.
@@ -252,10 +308,13 @@ pub fn properties(nodes: &[u32], work: &[u32], c: usize, level: u8, h: u32) -> c
     requires { ⌜ 0 < c ⌝ }
     ensures { λ r. ⌜ ((K : Kind) → c ≡ arity K → Tells K (now (nodes .entry)) (now (work .entry)) level h r) ⌝ }
 {
-    let v = handle_word(work, c, h);
+    let s = words_start(work.len(), c);
+    let e = words_end(work.len(), s);
+    let v = handle_word(&work[s..e], c, h);
     if v != 0 {
         return properties_in(v);
     }
+    let l = level as u32;
     let e = walks_to(nodes, c, level, h, 0);
     let u = walks_to(nodes, c, level, h, 1);
     let i = if c == 4 {
@@ -267,6 +326,7 @@ pub fn properties(nodes: &[u32], work: &[u32], c: usize, level: u8, h: u32) -> c
         empty: e,
         universal: u,
         identity: i,
+        level: l,
     }
 }
 

@@ -19,68 +19,70 @@ abbrev μ-loop : tie.MeasureT-loop
 loop-holds : tie.Need-loop-holds Inv-loop μ-loop
 loop-holds c = (omega arith, refl, λ K B e p S. record { right = S .right; formed = S .formed })
 
-node-fits-requires : tie.Need-node-fits-requires Inv-loop μ-loop
-node-fits-requires c κs =
-    let c2 = c .before .before in
-    let a = c2 .before .before .before .args in
-    (omega arith, omega (arith, row-within (a .c) (c2 .loop .i) (a .n) (omega arith)), omega arith)
-
-returns : tie.Need-returns Inv-loop μ-loop
-returns c =
-    let c4 = c .before .before .before .before in
-    let a = c4 .before .before .before .args in
-    let o = c4 .loop in
-    judged-no (a .c) (a .n) (a .k) (o .i) (a .nodes .now) (a .work .now) (o .work) (o .inv .2) (c .before .node-fits .result) (omega arith) (o .inv .1)
-    (c .before .node-fits .ensures) (not-true _ (c .if1 .taken))
-
 mul-s : tie.Need-mul-s Inv-loop μ-loop
 mul-s c =
     let c4 = c .before .before .before .before in
-    let a = c4 .before .before .before .args in
-    omega (arith, row-within (a .c) (c4 .loop .i) (a .n) (omega arith))
+    omega (arith, row-within (c4 .args .c) (c .before .loop .i) (c4 .args .n) (omega arith))
 
 add-e : tie.Need-add-e Inv-loop μ-loop
 add-e c =
     let c4 = c .before .before .before .before in
-    let a = c4 .before .before .before .args in
-    omega (arith, row-within (a .c) (c4 .loop .i) (a .n) (omega arith))
+    omega (arith, row-within (c4 .args .c) (c .before .loop .i) (c4 .args .n) (omega arith))
 
-mul-note : tie.Need-mul-note Inv-loop μ-loop
-mul-note c =
+mul-gather : tie.Need-mul-gather Inv-loop μ-loop
+mul-gather c =
     let c5 = c .before .before .before .before .before in
-    let a = c5 .before .before .before .args in
-    omega (arith, row-within (a .c) (c5 .loop .i) (a .n) (omega arith))
+    omega (arith, row-within (c5 .args .c) (c .before .before .loop .i) (c5 .args .n) (omega arith))
 
-part-note-end : tie.Need-part-note-end Inv-loop μ-loop
-part-note-end c =
+part-gather-end : tie.Need-part-gather-end Inv-loop μ-loop
+part-gather-end c =
     let c5 = c .before .before .before .before .before in
-    let a = c5 .before .before .before .args in
-    omega (arith, row-within (a .c) (c5 .loop .i) (a .n) (omega arith))
+    omega (arith, row-within (c5 .args .c) (c .before .before .loop .i) (c5 .args .n) (omega arith))
+
+node-fits-requires : tie.Need-node-fits-requires Inv-loop μ-loop
+node-fits-requires c κs =
+    let c5 = c .before .before .before .before .before in
+    let c8 = c5 .before .before .before in
+    (omega arith, omega (arith, row-within (c8 .args .c) (c5 .loop .i) (c8 .args .n) (omega arith)), omega arith)
+
+returns : tie.Need-returns Inv-loop μ-loop
+returns c =
+    let c3 = c .before .before .before in
+    let c7 = c3 .before .before .before .before in
+    let c10 = c7 .before .before .before in
+    let a = c10 .args in
+    let o = c7 .loop in
+    judged-no (a .c) (a .n) (a .k) (o .i) (a .nodes .now) (a .work .now) (o .work) (o .inv .2) (c3 .gather .result) (c3 .gather .ensures)
+    (c .before .node-fits .result)
+    (omega arith) (o .inv .1) (c .before .node-fits .ensures) (not-true _ (c .if1 .taken))
 
 enter-requires : tie.Need-enter-requires Inv-loop μ-loop
 enter-requires c κs =
-    let c10 = c .before .before .before .before .before .before .before .before .before .before in
-    let a = c10 .before .before .before .args in
-    (omega (arith, row-within (a .c) (c10 .loop .i) (a .n) (omega arith)), omega arith)
+    let c12 = c .before .before .before .before .before .before .before .before .before .before .before .before in
+    let c15 = c12 .before .before .before in
+    (omega (arith, row-within (c15 .args .c) (c12 .loop .i) (c15 .args .n) (omega arith)), omega arith)
 
 loop-again : tie.Need-loop-again Inv-loop μ-loop
 loop-again c =
-    let c2 = c .before .before in
-    let c6 = c2 .before .before .before .before in
-    let c9 = c6 .before .before .before in
-    let f = c9 .before .node-fits in
-    let c13 = c9 .before .before .before .before in
-    let o = c13 .loop in
-    let a = c13 .before .before .before .args in (
+    let c6 = c .before .before .before .before .before .before in
+    let c8 = c6 .before .before in
+    let c9 = c8 .before in
+    let c11 = c9 .before .before in
+    let c15 = c11 .before .before .before .before in
+    let c18 = c15 .before .before .before in
+    let a = c18 .args in
+    let o = c15 .loop in (
       omega arith,
-      c2 .enter .ensures .wide ∙ search needs,
-      all-next (a .c) (a .n) (a .k) (o .i) (a .nodes .now) (a .work .now) (o .work) (o .inv .2) (f .result) _ _ (omega arith) (f .ensures)
-          (not-false _ (c9 .if1 .left)) (c6 .note .ensures) (c2 .enter .ensures),
+      c .before .before .enter .ensures .wide ∙ search needs,
+      all-next (a .c) (a .n) (a .k) (o .i) (a .nodes .now) (a .work .now) (o .work) (o .inv .2) (c11 .gather .result) (c11 .gather .ensures)
+          (c9 .node-fits .result) _ _
+          (omega arith) (c9 .node-fits .ensures) (not-false _ (c8 .if1 .left)) (c6 .write .ensures) (c .before .before .enter .ensures),
     )
 
 returns-2 : tie.Need-returns-2 Inv-loop μ-loop
 returns-2 c =
-    let a = c .before .before .before .before .args in
+    let c4 = c .before .before .before .before in
+    let a = c4 .args in
     let o = c .before .loop in
     judged-yes (a .c) (a .n) (a .k) (o .i) (a .nodes .now) (a .work .now) (o .work) (o .inv .2) (omega arith) (o .inv .1)
 
@@ -91,15 +93,16 @@ nodes-fit-spec =
     Inv-loop
     μ-loop
     loop-holds
+    mul-s
+    add-e
+    mul-gather
+    (λ c. search needs)
+    (λ c. search needs)
+    part-gather-end
+    (λ c κs. search needs)
     node-fits-requires
     (λ c. search needs)
     returns
-    mul-s
-    add-e
-    mul-note
-    (λ c. search needs)
-    (λ c. search needs)
-    part-note-end
     (λ c κs. search needs)
     enter-requires
     (λ c. search needs)

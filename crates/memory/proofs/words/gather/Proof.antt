@@ -1,52 +1,56 @@
--- `memory::words::gather` meets its contract. The loop's invariant: e, u and i are what the words of the first d children say.
-use Prim.Native.Nat.{_-_}
+-- `memory::words::gather` meets its contract: the words of the node's kind are a part of the working memory.
+use mathlib.Core.Path.{_≡_}
 use native.Mathlib.Omega.{arith}
-use lib.ListN.{length}
+use Rattle.nodes.specs.Store.{Kind, set, rel}
+use Rattle.memory.specs.Working.{Words}
+use Rattle.memory.specs.Noting.{Gathers}
+use Rattle.memory.proofs.Known.{is-set, is-rel, gathers-in, gathers-nothing}
 use borrow.Author.Needs.{needs}
-use Rattle.memory.proofs.Known.{known-nothing, Gathered, gathered-none, gathered-more, gathered-all}
 use Rattle.memory.proofs.words.gather.Statement.{statement}
 use Rattle.memory.proofs.words.gather.Tie as tie
 
-abbrev Inv-loop : tie.InvT-loop
-Inv-loop work x c e₀ u₀ i₀ d₀ e u i d = Gathered work x d e u i
+returns : tie.Need-returns
+returns c =
+    let c3 = c .before .before .before in
+    let c4 = c3 .before in
+    let c7 = c4 .before .before .before in
+    let a = c7 .args in
+    λ K z. is-set (λ K. Gathers K (Words (a .work .now)) (a .x .now) (c .set-word .result))
+    (gathers-in (a .work .now) (a .x .now) (c4 .words-start .result) (c3 .words-end .result) _
+    (c4 .words-start .ensures .0 set (c .before .before .if1 .taken))
+    (c3 .words-end .ensures .1) (c3 .words-end .ensures .2) (c .set-word .ensures)) K (omega arith)
 
-abbrev μ-loop : tie.MeasureT-loop
-μ-loop work x c e₀ u₀ i₀ d₀ e u i d = length x - d
+returns-2 : tie.Need-returns-2
+returns-2 c =
+    let c3 = c .before .before .before in
+    let c4 = c3 .before in
+    let c5 = c4 .before in
+    let c8 = c5 .before .before .before in
+    let a = c8 .args in
+    λ K z. is-rel (λ K. Gathers K (Words (a .work .now)) (a .x .now) (c .relation-word .result)) _ (c3 .if1 .left)
+    (gathers-in (a .work .now) (a .x .now) (c5 .words-start .result) (c4 .words-end .result) _
+    (c5 .words-start .ensures .0 rel (c .before .before .if2 .taken))
+    (c4 .words-end .ensures .1) (c4 .words-end .ensures .2) (c .relation-word .ensures)) K z
 
-loop-holds : tie.Need-loop-holds Inv-loop μ-loop
-loop-holds c = gathered-none
-
-returns : tie.Need-returns Inv-loop μ-loop
-returns c K k S h n F W b g = known-nothing _ (omega arith)
-
-loop-again : tie.Need-loop-again Inv-loop μ-loop
-loop-again c =
-    let b = c .before .before .before .before .before .before .before .before .before in
-    gathered-more _ _ (b .loop .d) (c .before .before .before .before .before .before .handle-word .result) _ _ _ _ _ _ _ _ (omega arith) (omega arith)
-    (c .before .before .before .before .before .before .handle-word .ensures) (b .loop .inv) (c .before .before .before .before .properties-in .ensures)
-    (c .before .before .before .both .ensures) (c .before .before .both2 .ensures) (c .before .asked .ensures) (c .both3 .ensures)
-
-returns-2 : tie.Need-returns-2 Inv-loop μ-loop
-returns-2 c = gathered-all _ _ (c .before .before .loop .d) _ _ _ _ (omega arith) (c .before .before .loop .inv) (c .word-of .ensures .1)
+returns-3 : tie.Need-returns-3
+returns-3 c = λ K z. gathers-nothing _ _ (omega arith)
 
 pub gather-spec : {M : Type 1} → statement M
 gather-spec =
     tie.close
     (tie.spec
-    Inv-loop
-    μ-loop
-    loop-holds
+    (λ c κs. search needs)
+    (λ c κs. search needs)
+    (λ c. search needs)
+    (λ c. search needs)
     (λ c. search needs)
     (λ c. search needs)
     (λ c κs. search needs)
     returns
-    (λ c κs. search needs)
-    (λ c κs. search needs)
-    (λ c κs. search needs)
-    (λ c κs. search needs)
-    (λ c κs. search needs)
     (λ c. search needs)
     (λ c. search needs)
-    loop-again
+    (λ c. search needs)
+    (λ c. search needs)
     (λ c κs. search needs)
-    returns-2)
+    returns-2
+    returns-3)

@@ -15,7 +15,7 @@ returns-2 : tie.Need-returns-2
 returns-2 c k S h F W =
     let e = c .before .properties-in .ensures in
     known-other k S h (c .before .before .before .args .v) _ (omega arith)
-    (c .word-of .ensures .1 ∙ ap (λ (r : Properties). properties (r .universal) (r .empty) false) e) F W
+    (λ p. c .word-of .ensures p ∙ ap (λ (r : Properties). properties (r .universal) (r .empty) false (r .level)) e) F W
 
 pub opposite-word-spec : {M : Type 1} → statement M
 opposite-word-spec = tie.close (tie.spec returns (λ c κs. search needs) (λ c κs. search needs) returns-2)

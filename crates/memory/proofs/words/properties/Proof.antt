@@ -1,16 +1,17 @@
 -- `properties` reads the handle's word, which says nothing wrong, or walks where there is none.
-use mathlib.Core.Path.{_≡_, sym, ap, _∙_, subst}
+use mathlib.Core.Path.{_≡_, refl, sym, ap, _∙_, subst}
 use mathlib.Core.List.{List}
 use mathlib.Core.Bool.{Bool}
 use Prim.Native.Nat.{ℕ, _≤_}
 use native.Mathlib.Omega.{arith}
-use borrow.Author.Needs.{needs}
 use Rattle.nodes.specs.Store.{Kind, rel, arity, Store}
 use Rattle.nodes.specs.Programs.{isIdentity, ending, agrees}
 use Rattle.nodes.specs.WellFormed.{Held, WellFormed}
 use Rattle.nodes.proofs.Tests.{ident}
 use Rattle.memory.specs.Rows.{places, plain}
 use Rattle.memory.specs.Working.{Has}
+use Rattle.memory.proofs.Known.{words-part}
+use borrow.Author.Needs.{needs}
 use Rattle.memory.proofs.words.properties.Statement.{statement}
 use Rattle.memory.proofs.words.properties.Tie as tie
 
@@ -26,31 +27,39 @@ of-rel K k B m n l h i F A e q =
     (λ F A. sym (e F A)) F A
 
 walked : (K : Kind) (S : Store) (l h : ℕ) (e u i : Bool) → e ≡ agrees (λ ds. 0) K l h S → u ≡ agrees (λ ds. 1) K l h S
-    → (K ≡ rel → agrees (ending isIdentity) K l h S ≡ i) → Has K S l h (record { empty = e; universal = u; identity = i })
-walked K S l h e u i p q r = record { empty = sym p; universal = sym q; identity = r }
+    → (K ≡ rel → agrees (ending isIdentity) K l h S ≡ i) → Has K S l h (record { empty = e; universal = u; identity = i; level = l })
+walked K S l h e u i p q r = record { empty = sym p; universal = sym q; identity = r; level = refl }
 
 returns : tie.Need-returns
 returns c =
+    let c4 = c .before .before .before .before in
+    let c5 = c4 .before in
+    let c8 = c5 .before .before .before in
+    let s = c8 .args in
     λ K a. record {
-      tells = λ k B n r F W A. subst (Has K _ _ _) (sym (c .properties-in .ensures))
-          (c .before .before .handle-word .ensures K k _ a F W (let z = c .before .if1 .taken in omega arith) _ A);
+      tells = λ k B n r F W A. subst (Has K _ _ _) (sym (c .properties-in .ensures)) (c .before .before .handle-word .ensures K k _ a F
+          (words-part K (s .work .now) _ (c5 .words-start .result) (c4 .words-end .result) (c5 .words-start .ensures .0 K a)
+          (c4 .words-end .ensures .1) (c4 .words-end .ensures .2) W) (let z = c .before .if1 .taken in omega arith) _ A);
     }
 
 returns-2 : tie.Need-returns-2
 returns-2 c =
-    let s = c .before .before .before .before .before .before .before .before .args in
+    let c3 = c .before .before .before in
+    let c11 = c3 .before .before .before .before .before .before .before .before in
+    let s = c11 .args in
     λ K a. record {
       tells = λ k B n r F W A.
           let r′ = room K (s .c) n (s .nodes .now) a r in
           let r″ : n ≤ places 4 (s .nodes .now) = subst (λ c. n ≤ places c (s .nodes .now)) (c .before .if2 .taken) r′ in
-          walked K (plain K B (s .nodes .now) n) (s .level) (s .h) _ _ _ (c .before .before .before .walks-to .ensures K k B n a r′ F A)
+          walked K (plain K B (s .nodes .now) n) (s .level) (s .h) _ _ _ (c3 .walks-to .ensures K k B n a r′ F A)
           (c .before .before .walks-to2 .ensures K k B n a r′ F A)
           (of-rel K k B (s .nodes .now) n (s .level) (s .h) _ F A (c .walks-identity .ensures k B n r″));
     }
 
 returns-3 : tie.Need-returns-3
 returns-3 c =
-    let s = c .before .before .before .before .before .before .before .args in
+    let c10 = c .before .before .before .before .before .before .before .before .before .before in
+    let s = c10 .args in
     λ K a. record {
       tells = λ k B n r F W A.
           let r′ = room K (s .c) n (s .nodes .now) a r in
@@ -62,6 +71,12 @@ pub properties-spec : {M : Type 1} → statement M
 properties-spec =
     tie.close
     (tie.spec
+    (λ c κs. search needs)
+    (λ c κs. search needs)
+    (λ c. search needs)
+    (λ c. search needs)
+    (λ c. search needs)
+    (λ c. search needs)
     (λ c κs. search needs)
     (λ c κs. search needs)
     returns
