@@ -11,14 +11,13 @@ use lib.Seq.{take-take, drop-drop, paste}
 use lib.Dec.{eqb, T, lt→ltb}
 use borrow.Author.Tests.{eqb-true, eqb-false}
 use Rattle.nodes.specs.Programs.{mk, run}
-use Rattle.nodes.specs.Safety.{Within, Safe}
-use Rattle.nodes.specs.Store.{Kind, set, rel, arity, Store, nodes, index, handle-of, with-sign, get, sign, stored}
+use Rattle.nodes.specs.Safety.{Safe}
+use Rattle.nodes.specs.Store.{Kind, set, rel, arity, Store, nodes, index, handle-of, with-sign, sign, stored}
 use Rattle.nodes.specs.WellFormed.{Held, Even, Fits, WellFormed, Extends, is-held}
 use Rattle.nodes.proofs.Extends.{append-nil, ext-refl, ext-trans, ext-held}
 use Rattle.nodes.proofs.Levels.{arity-pos, small, held-once, held-at}
 use Rattle.nodes.proofs.Mk.{mk-formed}
 use Rattle.nodes.proofs.Signs.{with-sign-zero}
-use Rattle.nodes.proofs.Tests.{low-level}
 use Rattle.memory.specs.Arena.{arena, Done}
 use Rattle.memory.specs.Finding.{Search, Finds, Entered}
 use Rattle.memory.specs.Noting.{Written, Noted, Gathers, LevelIs}

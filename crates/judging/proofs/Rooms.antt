@@ -5,12 +5,12 @@ use mathlib.Core.Bool.{Bool, true, false, _&&_}
 use Prim.Native.Nat.{ℕ, _+_, _-_, _*_, _/_, _<_, _≤_, min}
 use native.Mathlib.Nat.{mul-le-mul-left, mul-div-le}
 use native.Mathlib.Omega.{arith}
-use lib.ListN.{length, getD, drop, length-drop}
+use lib.ListN.{length, getD, length-drop}
 use lib.Dec.{eqb, leb}
 use Rattle.nodes.specs.Store.{Kind, set, rel, arity}
 use Rattle.nodes.specs.Programs.{all-below}
 use Rattle.judging.specs.Memory.{head, count, places-in}
-use Rattle.judging.specs.Valid.{Room, room?}
+use Rattle.judging.specs.Valid.{room?}
 use Rattle.judging.proofs.Deciding.{Decided, decided-le, decided-eq, decided-all, decided-true, decided-false}
 use Rattle.judging.proofs.Decide.{room-says}
 

@@ -1,5 +1,5 @@
 -- One policy's line more, and the whole listing, from what each function writes.
-use mathlib.Core.Path.{_≡_, refl, sym, ap, _∙_}
+use mathlib.Core.Path.{_≡_, sym, ap, _∙_}
 use mathlib.Core.List.{List, [], _∷_, _++_, append-assoc}
 use Prim.Native.Nat.{ℕ, _+_, _-_, _*_, _<_, _≤_}
 use native.Mathlib.Omega.{arith}
@@ -17,7 +17,7 @@ use Rattle.store.specs.Outcome.{Told, told}
 use Rattle.store.specs.declared.Answer.{Answer}
 use Rattle.listing.specs.Lines.{lines}
 use Rattle.listing.specs.Listing.{answer-line, first-line, last-line, policy-lines, zeroed, listed, of-lines, width-of, too-long, listing}
-use Rattle.listing.specs.Writing.{Adds, AddsFew, PolicyLine, PolicyLines}
+use Rattle.listing.specs.Writing.{AddsFew, PolicyLine, PolicyLines}
 use Rattle.listing.specs.declared.fields.Width.{Width}
 use Rattle.listing.specs.declared.fields.Width.the-variants.{Is}
 use Rattle.listing.proofs.Adding.{few-as}

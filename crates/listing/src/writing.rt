@@ -3,12 +3,10 @@ ghost use mathlib.Core.Path.{_≡_};
 ghost use mathlib.Core.List.{_++_};
 ghost use Prim.Native.Nat.{_+_, _≤_};
 ghost use lib.ListN.{length};
-ghost use Rattle.policies.specs.Answers.{fault-number};
 ghost use Rattle.policies.specs.declared.PolicyAnswer.the-variants.{Declined};
 ghost use Rattle.listing.specs.Decimal.{decimal};
 ghost use Rattle.listing.specs.Listing.{first-line, shown, answer-line, nodes-line};
 ghost use Rattle.listing.specs.Writing.{Adds, AddsFew};
-use policies::Fault;
 use policies::PolicyAnswer;
 use policies::PolicyRefusal;
 
@@ -41,18 +39,6 @@ pub(crate) fn first_line(out: &mut [u8], k: u32) -> usize
     put(out, end, b"\n")
 }
 
-// Document 01's number of a fault.
-fn fault_number(f: Fault) -> u32
-    ensures { λ r. ⌜ r ≡ fault-number f ⌝ }
-{
-    match f {
-        Fault::NotPolicy => 7,
-        Fault::NotPredicate => 8,
-        Fault::TooDeep => 9,
-        Fault::NoField => 5,
-    }
-}
-
 // The refusal's number, and the offset where there is one.
 fn put_refusal(out: &mut [u8], at: usize, r: PolicyRefusal) -> usize
     requires { ⌜ at + 43 ≤ length (now out) ⌝ }
@@ -60,7 +46,7 @@ fn put_refusal(out: &mut [u8], at: usize, r: PolicyRefusal) -> usize
 {
     match r {
         PolicyRefusal::At(f, i) => {
-            let number = fault_number(f);
+            let number = policies::fault_number(f);
             let from = put_number(out, at, b" r", number as u64);
             put_number(out, from, b" ", i as u64)
         }

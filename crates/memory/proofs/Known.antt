@@ -1,19 +1,17 @@
 -- Property words: what the words of the constants, of a set's other handle, of a node at its place and of a node from its children's say.
 use mathlib.Core.Path.{_≡_, refl, sym, ap, _∙_, subst}
 use mathlib.Core.Logic.{_⊎_, inl, inr}
-use mathlib.Core.List.{List, _∷_}
+use mathlib.Core.List.{List}
 use mathlib.Core.Bool.{Bool, true, false, _&&_}
 use Prim.Native.Nat.{ℕ, zero, suc, _+_, _-_, _*_, _/_, _%_, _<_, _≤_, min}
 use native.Mathlib.Omega.{arith}
-use native.Mathlib.Numerals.{add-one}
 use lib.ListN.{length, getD, take, drop, length-drop}
 use lib.Seq.{getD-take, getD-drop, length-take-le}
-use lib.Dec.{eqb, ltb, T}
-use borrow.Author.Tests.{ltb-true, ltb-false}
-use Rattle.nodes.specs.Store.{Kind, set, rel, arity, Store, nodes, pick, handle-of, get, child, signed}
-use Rattle.nodes.specs.Programs.{isEmpty, isUniversal, isIdentity, ending, agrees}
+use lib.Dec.{eqb, T}
+use Rattle.nodes.specs.Store.{Kind, set, rel, arity, Store, pick, handle-of, get, child, signed}
+use Rattle.nodes.specs.Programs.{agrees}
 use Rattle.nodes.specs.WellFormed.{Held, WellFormed}
-use Rattle.nodes.proofs.Bools.{by-test, on-digits}
+use Rattle.nodes.proofs.Bools.{on-digits}
 use Rattle.nodes.proofs.Signs.{signed-twice, index-handle}
 use Rattle.nodes.proofs.Canonical.{walk-bit}
 use Rattle.nodes.proofs.Canonical.{formed-sized}

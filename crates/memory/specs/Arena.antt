@@ -2,13 +2,13 @@
 -- that has the nodes of the other kind, or over those with a condition Q.
 use mathlib.Core.Path.{_≡_}
 use mathlib.Core.List.{List, [], _∷_}
-use mathlib.Core.Bool.{Bool, true, false, _&&_}
+use mathlib.Core.Bool.{Bool, true, _&&_}
 use mathlib.Core.Logic.{_⊎_}
 use Prim.Native.Nat.{ℕ, _+_, _*_, _<_, _≤_}
-use lib.ListN.{length, getD, take, drop}
+use lib.ListN.{length, take, drop}
 use lib.Dec.{leb}
 use Rattle.nodes.specs.Store.{Kind, set, rel, arity, Store, nodes, handle-of, sign, stored, get}
-use Rattle.nodes.specs.Programs.{Prog, mk, Ran, ran, run}
+use Rattle.nodes.specs.Programs.{Prog, mk, ran, run}
 use Rattle.nodes.specs.WellFormed.{Held, WellFormed}
 use Rattle.nodes.specs.Safety.{Within, Safe}
 use Rattle.memory.specs.Rows.{row, rows, places, plain}

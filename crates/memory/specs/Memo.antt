@@ -1,8 +1,7 @@
 -- The operations that the memo keeps, by number: each is the part of its program that is left where no shortcut answers.
-use mathlib.Core.Bool.{Bool}
 use Prim.Native.Nat.{ℕ, _-_}
 use lib.Dec.{eqb, ltb}
-use Rattle.nodes.specs.Store.{Kind, set, rel, pick}
+use Rattle.nodes.specs.Store.{set, rel, pick}
 use Rattle.nodes.specs.Programs.{Prog, panic}
 use Rattle.nodes.specs.Recursion.{node1, node2}
 use Rattle.nodes.specs.Operations.{complement-op, union-op, intersect-op, xor-op, difference-op, test, assign}

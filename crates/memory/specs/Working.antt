@@ -1,12 +1,12 @@
 -- The working memory: its parts, and when they are right for the nodes of a store.
 use mathlib.Core.Path.{_≡_}
 use mathlib.Core.List.{List, [], _∷_}
-use mathlib.Core.Bool.{Bool, true, false}
+use mathlib.Core.Bool.{Bool}
 use Prim.Native.Nat.{ℕ, zero, suc, _+_, _-_, _*_, _/_, _%_, _<_, _≤_, min}
 use lib.ListN.{length, getD}
 use lib.Dec.{eqb, ltb}
 use Rattle.nodes.specs.Store.{Kind, set, rel, arity, Store, nodes, pick, handle-of}
-use Rattle.nodes.specs.Programs.{Property, isEmpty, isUniversal, isIdentity, ending, agrees, ran, run}
+use Rattle.nodes.specs.Programs.{isEmpty, isUniversal, isIdentity, ending, agrees}
 use Rattle.nodes.specs.WellFormed.{Held, WellFormed}
 use Rattle.nodes.specs.Safety.{Settled}
 use Rattle.memory.specs.Rows.{row, plain}

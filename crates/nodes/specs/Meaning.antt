@@ -1,8 +1,8 @@
 -- What the operations mean: sets and relations of packets, after the KATch paper (SPs and SPPs) and NetKAT without `dup`.
 use mathlib.Core.Path.{_≡_}
 use mathlib.Core.Logic.{_⊎_, _↔_}
-use mathlib.Core.List.{List, [], _∷_}
-use mathlib.Core.Bool.{Bool, true, false}
+use mathlib.Core.List.{List}
+use mathlib.Core.Bool.{Bool}
 use Prim.Native.Nat.{ℕ, zero, suc, _<_}
 use lib.ListN.{getD, set as put}
 use Rattle.nodes.specs.Store.{Kind, rel, Store, pick}

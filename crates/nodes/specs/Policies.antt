@@ -5,7 +5,7 @@ use mathlib.Core.Bool.{Bool, true, false, _&&_}
 use Prim.Native.Nat.{ℕ}
 use lib.Dec.{ltb}
 use Rattle.nodes.specs.Store.{rel}
-use Rattle.nodes.specs.Programs.{Prog, ret, mk, bind, _>>=_}
+use Rattle.nodes.specs.Programs.{Prog, bind, _>>=_}
 use Rattle.nodes.specs.Operations.{zero-at-depth, one-at-depth, test, assign, union, difference}
 use Rattle.nodes.specs.Relations.{sequence, star}
 use Rattle.nodes.specs.Meaning.{Rel, Passes, Assign, Filter, Compose, Star}

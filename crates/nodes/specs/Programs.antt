@@ -1,6 +1,6 @@
 -- Programs on a plain store: what the Rust's methods do, as data, and how such a program runs.
 use mathlib.Core.List.{List, [], _∷_}
-use mathlib.Core.Bool.{Bool, true, false, _&&_}
+use mathlib.Core.Bool.{Bool, true, _&&_}
 use Prim.Native.Nat.{ℕ, zero, suc, _/_, _%_}
 use lib.Dec.{eqb, ltb}
 use Rattle.nodes.specs.Store.{Kind, arity, Store, child, pick, get, mk-store, mk-handle}

@@ -1,5 +1,5 @@
 -- The operations of relations alone, after spp.rs. `l` is the level of the operands; 01, "The operations": "Matrix rules".
-use mathlib.Core.List.{List, [], _∷_}
+use mathlib.Core.List.{[], _∷_}
 use Prim.Native.Nat.{ℕ}
 use Rattle.nodes.specs.Store.{rel}
 use Rattle.nodes.specs.Programs.{isEmpty, isUniversal, isIdentity, less, has, Prog, ret, ask, mk, bind, _>>=_}

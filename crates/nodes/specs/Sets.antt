@@ -1,5 +1,5 @@
 -- The operations of sets alone, after sp.rs. `l` is the level of the operands.
-use mathlib.Core.List.{List, [], _∷_}
+use mathlib.Core.List.{[], _∷_}
 use Prim.Native.Nat.{ℕ, zero, suc}
 use Rattle.nodes.specs.Store.{set, signed}
 use Rattle.nodes.specs.Programs.{isEmpty, isUniversal, same, less, has, Prog, panic, ret, ask, look, mk, bind, _>>=_}

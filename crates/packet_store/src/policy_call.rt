@@ -2,24 +2,10 @@
 ghost use mathlib.Core.Path.{_≡_};
 ghost use Prim.Native.Nat.{_≤_};
 ghost use Rattle.judging.specs.Memory.{memories};
-ghost use Rattle.policies.specs.Answers.{fault-number};
 ghost use Rattle.policies.specs.declared.PolicyAnswer.the-variants.{Declined};
 ghost use Rattle.packet_store.specs.Packed.{offset, packed-policy, AnswersPolicy};
-use policies::Fault;
 use policies::PolicyAnswer;
 use policies::PolicyRefusal;
-
-// The number of what is wrong at a place in a text.
-fn fault_number(f: Fault) -> u32
-    ensures { λ n. ⌜ n ≡ fault-number f ⌝ }
-{
-    match f {
-        Fault::NotPolicy => 7,
-        Fault::NotPredicate => 8,
-        Fault::TooDeep => 9,
-        Fault::NoField => 5,
-    }
-}
 
 // The number of a refusal in the high half, its offset in the low half.
 fn pack_refusal(r: PolicyRefusal) -> u64
@@ -27,7 +13,7 @@ fn pack_refusal(r: PolicyRefusal) -> u64
     ensures { λ n. ⌜ n ≡ packed-policy (Declined r) ⌝ }
 {
     match r {
-        PolicyRefusal::At(f, i) => fault_number(f) as u64 * 0x1_0000_0000 + i as u64,
+        PolicyRefusal::At(f, i) => policies::fault_number(f) as u64 * 0x1_0000_0000 + i as u64,
         PolicyRefusal::Store(s) => store::number_of(s) as u64 * 0x1_0000_0000,
     }
 }

@@ -8,6 +8,7 @@ ghost use Rattle.store.specs.Checking.{Accepted};
 ghost use Rattle.store.specs.Outcome.{told};
 ghost use Rattle.texts.specs.Reading.{reading};
 ghost use Rattle.texts.specs.declared.Reading.the-variants.{Policy};
+ghost use Rattle.policies.specs.Answers.{fault-number};
 ghost use Rattle.policies.specs.Outcome.{policy-step, short?};
 
 mod build;
@@ -31,6 +32,18 @@ pub enum PolicyRefusal {
 pub enum PolicyAnswer {
     Handle(u32),
     Declined(PolicyRefusal),
+}
+
+// Document 01's number of a fault.
+pub fn fault_number(f: Fault) -> u32
+    ensures { λ n. ⌜ n ≡ fault-number f ⌝ }
+{
+    match f {
+        Fault::NotPolicy => 7,
+        Fault::NotPredicate => 8,
+        Fault::TooDeep => 9,
+        Fault::NoField => 5,
+    }
 }
 
 // A text within the rules: it is built, and its nodes are kept where they fit.

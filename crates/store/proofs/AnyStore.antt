@@ -1,6 +1,6 @@
 -- One call on any store whatever leaves a store with as many fields, and its nodes are only added to: from the law for one call.
-use mathlib.Core.Path.{_≡_, refl, sym, ap, _∙_, subst}
-use Rattle.nodes.specs.Store.{Kind, set, rel}
+use mathlib.Core.Path.{_≡_, refl, sym, _∙_, subst}
+use Rattle.nodes.specs.Store.{set, rel}
 use Rattle.nodes.specs.WellFormed.{Extends}
 use Rattle.store.specs.Calls.{Call, new-store, set-call, set-read, relation-call, relation-read, image-call, filter-call, path-read, step}
 use Rattle.store.specs.Lists.{NewRefused, Matches}

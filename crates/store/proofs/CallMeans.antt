@@ -1,6 +1,5 @@
 -- What the handle that a public call gives means in the memories that it leaves: the fact to cite for each call, from its verdict and meaning.
 use mathlib.Core.Path.{_≡_, refl, sym, ap, _∙_, subst}
-use mathlib.Core.Bool.{Bool, true, false}
 use Prim.Native.Nat.{ℕ}
 use Rattle.nodes.specs.Store.{set, rel, Store, pick}
 use Rattle.nodes.specs.Places.{fits-places}
@@ -8,7 +7,7 @@ use Rattle.nodes.specs.Programs.{Prog, run}
 use Rattle.nodes.specs.WellFormed.{WellFormed}
 use Rattle.nodes.proofs.Bools.{by-test}
 use Rattle.nodes.proofs.Rules.{Does}
-use Rattle.store.specs.Calls.{Call, set-call, relation-call, set-places, rel-places, on-store, step}
+use Rattle.store.specs.Calls.{set-call, relation-call, set-places, rel-places, on-store, step}
 use Rattle.store.specs.Meanings.{set-meaning, relation-meaning}
 use Rattle.judging.specs.Memory.{Memories, fields, decode, encode}
 use Rattle.store.specs.Outcome.{Verdict, declines, gives, runs, Told, told, concludes}

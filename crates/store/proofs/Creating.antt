@@ -1,10 +1,10 @@
 -- `new` before its nodes are made: what it declines, and the memories without nodes that it begins with.
 use mathlib.Core.Path.{_≡_, refl, sym, ap, _∙_, subst}
-use mathlib.Core.List.{List, [], _∷_, _++_}
-use mathlib.Core.Bool.{Bool, true, false, _&&_}
+use mathlib.Core.List.{List, [], _++_}
+use mathlib.Core.Bool.{true, false, _&&_}
 use Prim.Native.Nat.{ℕ, _+_, _-_, _*_, _/_, _<_, _≤_, min}
 use native.Mathlib.Omega.{arith}
-use lib.ListN.{length, getD, set as put, take, drop, replicate, length-drop}
+use lib.ListN.{length, set as put, drop, replicate, length-drop}
 use lib.Seq.{drop-drop}
 use lib.Dec.{leb}
 use borrow.Author.Tests.{le-leb, lt-leb}
@@ -16,7 +16,7 @@ use Rattle.nodes.proofs.New.{blank-formed, new-counts}
 use Rattle.store.specs.Calls.{new-store, set-places, rel-places, heads?, step}
 use Rattle.store.specs.Creating.{NewChecked, Begun, Created}
 use Rattle.judging.specs.Commit.{cleared}
-use Rattle.judging.specs.Memory.{Memories, memories, memory, head, fields, places-in, decode, flat, write, encode}
+use Rattle.judging.specs.Memory.{Memories, memories, memory, head, fields, places-in, flat, write, encode}
 use Rattle.store.specs.Outcome.{Verdict, declines, runs, provided, told, concludes}
 use Rattle.store.specs.declared.Answer.{Answer}
 use Rattle.store.specs.declared.Check.the-variants.{Level}

@@ -5,13 +5,13 @@ use Prim.Native.Nat.{ℕ, zero, suc, _+_, _-_, _*_, _/_, _<_, _≤_, min}
 use native.Mathlib.Omega.{arith}
 use native.Mathlib.Nat.{mul-suc, mul-zero}
 use lib.ListN.{length, getD, take, drop, replicate, length-append, length-drop, length-replicate, getD-replicate, List·getD-append}
-use lib.Seq.{take-at, drop-at, drop-drop, drop-append-add, getD-append-add, ext-getD}
+use lib.Seq.{take-at, drop-at, drop-drop, getD-append-add, ext-getD}
 use Rattle.nodes.specs.Store.{Kind, set, rel, arity, Nodes, Store, nodes}
 use Rattle.nodes.specs.WellFormed.{WellFormed}
-use Rattle.nodes.proofs.Canonical.{Sized, formed-sized}
+use Rattle.nodes.proofs.Canonical.{formed-sized}
 use Rattle.memory.specs.Rows.{row, rows}
 use Rattle.memory.proofs.Rows.{rows-length, rows-at}
-use Rattle.judging.specs.Memory.{Memories, memory, head, count, fields, body, places-in, nodes-in, decode, flat, write, encode}
+use Rattle.judging.specs.Memory.{Memories, memory, head, count, fields, places-in, nodes-in, decode, flat, write, encode}
 use Rattle.judging.specs.Valid.{Room, IsStore}
 use Rattle.store.proofs.Writing.{spread, places-end}
 

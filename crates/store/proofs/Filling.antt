@@ -1,15 +1,15 @@
 -- `new` makes its nodes: the sets' constants, then the relations', each a program that ran on one kind's nodes.
 use mathlib.Core.Path.{_≡_, refl, sym, ap, _∙_, subst}
 use mathlib.Core.List.{List, []}
-use mathlib.Core.Bool.{Bool, true, false}
+use mathlib.Core.Bool.{true}
 use Prim.Native.Nat.{ℕ, _+_, _-_, _*_, _≤_}
 use native.Mathlib.Omega.{arith}
-use lib.ListN.{length, replicate}
+use lib.ListN.{length}
 use lib.Dec.{T}
 use borrow.Author.Tests.{le-leb}
 use borrow.Rule.Slice.PartMut.{putMid}
-use Rattle.nodes.specs.Store.{Kind, set, rel, arity, Store, nodes, with-nodes}
-use Rattle.nodes.specs.Programs.{Prog, run}
+use Rattle.nodes.specs.Store.{Kind, set, rel, Store, nodes}
+use Rattle.nodes.specs.Programs.{run}
 use Rattle.nodes.specs.Places.{fits-places}
 use Rattle.nodes.specs.Meaning.{Den, Relates}
 use Rattle.nodes.specs.Images.{blank, new}
@@ -30,12 +30,12 @@ use Rattle.memory.specs.declared.Arena.{Arena}
 use Rattle.memory.proofs.Rows.{rows-length}
 use Rattle.memory.proofs.Starting.{right-turned, right-cleared}
 use Rattle.memory.proofs.Walks.{T-true}
-use Rattle.store.specs.Calls.{set-places, rel-places, on-store}
+use Rattle.store.specs.Calls.{set-places, rel-places}
 use Rattle.store.specs.Checking.{Accepted}
 use Rattle.store.specs.Creating.{set-constants, relation-constants, Begun, Created}
 use Rattle.store.specs.Finishing.{Finished}
 use Rattle.judging.specs.Memory.{Memories, memories, memory, count, fields, body, decode, encode}
-use Rattle.store.specs.Outcome.{runs, told}
+use Rattle.store.specs.Outcome.{runs}
 use Rattle.judging.specs.Valid.{IsStore}
 use Rattle.store.specs.declared.Answer.{Answer}
 use Rattle.store.specs.declared.Answer.the-variants.{Handle}

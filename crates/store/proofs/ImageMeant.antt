@@ -5,7 +5,7 @@ use Rattle.nodes.specs.Store.{set, rel, Store}
 use Rattle.nodes.specs.Packets.{contains, relates}
 use Rattle.nodes.specs.Programs.{Prog}
 use Rattle.nodes.specs.Meaning.{Den, Relates}
-use Rattle.nodes.specs.WellFormed.{Held, WellFormed, level-of}
+use Rattle.nodes.specs.WellFormed.{WellFormed, level-of}
 use Rattle.nodes.proofs.Images.{fwd-does, bwd-does, push-does, pull-does, diagonal-does, ifwd-does, ibwd-does}
 use Rattle.nodes.proofs.Pairs.{relates-own}
 use Rattle.nodes.proofs.Rules.{Does}
@@ -13,7 +13,7 @@ use Rattle.nodes.proofs.YesNo.{has-image-does, has-path-does}
 use Rattle.store.specs.ImageCalls.{image-verdict, filter-verdict, path-declines}
 use Rattle.store.specs.ImageChecking.{PathSafe}
 use Rattle.store.specs.ImageMeanings.{image-meaning, filter-meaning}
-use Rattle.store.specs.Outcome.{Verdict, gives, runs, of-one, of-pair}
+use Rattle.store.specs.Outcome.{Verdict, gives, runs, of-pair}
 use Rattle.store.specs.declared.Answer.the-variants.{Handle}
 use Rattle.store.specs.declared.image_calls.ImageCall.{ImageCall}
 use Rattle.store.specs.declared.image_calls.ImageCall.the-variants.{Fwd, Bwd, Push, Pull}

@@ -1,12 +1,10 @@
 -- `bwd` after `ibwd` gives the set again: from what the two calls mean, and canonicity. The other way round it need not.
 use mathlib.Core.Path.{_≡_, refl, sym, ap, _∙_, subst}
-use mathlib.Core.Bool.{Bool, true, false}
-use mathlib.Core.List.{List}
+use mathlib.Core.Bool.{true}
 use mathlib.Core.Logic.{_↔_, Iff·trans}
 use Prim.Native.Nat.{ℕ, _≤_}
-use native.Mathlib.Omega.{arith}
 use Rattle.nodes.specs.Meaning.{Den, Relates, Domain}
-use Rattle.nodes.specs.Packets.{Packet, contains, relates}
+use Rattle.nodes.specs.Packets.{contains, relates}
 use Rattle.nodes.specs.Store.{set, rel, Store}
 use Rattle.nodes.specs.WellFormed.{Held, WellFormed, Extends, is-held, level-of}
 use Rattle.nodes.proofs.Bools.{by-test}
@@ -17,7 +15,6 @@ use Rattle.store.specs.Calls.{image-call, filter-call, step}
 use Rattle.store.specs.ImageCalls.{filter-verdict}
 use Rattle.store.specs.ImageMeanings.{image-meaning, filter-meaning}
 use Rattle.judging.specs.Memory.{Memories, fields, decode}
-use Rattle.store.specs.Outcome.{Told}
 use Rattle.judging.specs.Valid.{IsStore}
 use Rattle.store.specs.declared.Answer.the-variants.{Handle}
 use Rattle.store.specs.declared.Refusal.the-variants.{NotHeld}

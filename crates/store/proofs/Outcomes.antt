@@ -3,7 +3,7 @@
 use mathlib.Core.Path.{_≡_, refl, sym, ap, _∙_, subst}
 use mathlib.Core.List.{List, [], _∷_, _++_}
 use mathlib.Core.Bool.{Bool, true, false, _&&_}
-use Prim.Native.Nat.{ℕ, zero, suc, _+_, _-_, _*_, _<_, _≤_}
+use Prim.Native.Nat.{ℕ, _+_, _-_, _*_, _≤_}
 use native.Mathlib.Omega.{arith}
 use native.Mathlib.Nat.{mul-le-mul-left}
 use lib.ListN.{length, getD, set as put, take, drop, length-drop}
@@ -21,7 +21,7 @@ use Rattle.memory.proofs.Rows.{rows-length, places-fit, plain-nodes}
 use Rattle.store.specs.Calls.{set-places, rel-places, on-store}
 use Rattle.store.specs.Finishing.{Finished}
 use Rattle.judging.specs.Memory.{Memories, memories, memory, head, count, fields, body, places-in, nodes-in, decode, write, encode}
-use Rattle.store.specs.Outcome.{Verdict, declines, gives, runs, provided, Told, told, concludes}
+use Rattle.store.specs.Outcome.{Verdict, declines, gives, runs, told, concludes}
 use Rattle.judging.specs.Valid.{Room, IsStore, store?}
 use Rattle.store.specs.declared.Answer.{Answer}
 use Rattle.store.specs.declared.Answer.the-variants.{Handle, Declined}

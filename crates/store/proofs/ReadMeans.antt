@@ -11,7 +11,7 @@ use Rattle.nodes.specs.Operations.{complement}
 use Rattle.nodes.specs.Packets.{Digits, Packet, walk, relates}
 use Rattle.nodes.specs.Programs.{run}
 use Rattle.nodes.specs.Recursion.{x0, x1, x00, x01, x10, x11}
-use Rattle.nodes.specs.Store.{Kind, set, rel, Store, get}
+use Rattle.nodes.specs.Store.{set, rel, Store, get}
 use Rattle.nodes.specs.WellFormed.{Held, WellFormed, level-of}
 use Rattle.nodes.proofs.Bools.{eqb-iff}
 use Rattle.nodes.proofs.Pairs.{relates-den, relates-own, relates-iff, digits-of, relates-x00, relates-x01, relates-x10, relates-x11}

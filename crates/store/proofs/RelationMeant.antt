@@ -1,7 +1,6 @@
 -- The calls on relations: where one is not declined, its program is safe and its answer means what `Meanings` says.
 use mathlib.Core.Path.{_≡_, ap, subst}
-use mathlib.Core.List.{List, [], _∷_}
-use Prim.Native.Nat.{ℕ, _<_, _≤_}
+use Prim.Native.Nat.{ℕ, _≤_}
 use native.Mathlib.Omega.{arith}
 use lib.Dec.{eqb}
 use Rattle.nodes.specs.Store.{rel, Store}
@@ -25,7 +24,7 @@ use Rattle.store.specs.declared.relation_calls.RelationCall.{RelationCal
 use Rattle.store.specs.declared.relation_calls.RelationCall.the-variants as R
 use Rattle.store.specs.declared.relation_reads.RelationRead.{RelationRead}
 use Rattle.store.specs.declared.relation_reads.RelationRead.the-variants as Q
-use Rattle.store.proofs.Going.{Operand, provided-went, one-went, two-went, four-went, less, above, does-as, handle-in}
+use Rattle.store.proofs.Going.{provided-went, one-went, two-went, four-went, less, above, does-as, handle-in}
 
 -- CALLS THAT MAY ADD RELATIONS
 module _ {k : ℕ} {S : Store} {p : Prog} (F : WellFormed k S) where

@@ -1,6 +1,6 @@
 -- A call on judged memories: what its check says of the verdict, and what its program leaves, for the kind K that it adds to.
 use mathlib.Core.Path.{_≡_, refl, sym, ap, _∙_, subst}
-use mathlib.Core.List.{List, _++_}
+use mathlib.Core.List.{List}
 use mathlib.Core.Bool.{Bool, true}
 use Prim.Native.Nat.{ℕ, _+_, _-_, _*_, _≤_}
 use native.Mathlib.Omega.{arith}
@@ -22,7 +22,7 @@ use Rattle.store.specs.Checking.{checked, Low, Goes, Checks, ChecksBoth,
 use Rattle.store.specs.Finishing.{Finished}
 use Rattle.judging.specs.Judging.{kind-last, both, StoreJudged}
 use Rattle.judging.specs.Memory.{Memories, memory, head, count, fields, body, decode}
-use Rattle.store.specs.Outcome.{Verdict, declines, runs, told}
+use Rattle.store.specs.Outcome.{Verdict, runs, told}
 use Rattle.judging.specs.Valid.{IsStore}
 use Rattle.store.specs.declared.Answer.{Answer}
 use Rattle.store.specs.declared.Answer.the-variants.{Declined}

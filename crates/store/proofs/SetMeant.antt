@@ -1,7 +1,6 @@
 -- The calls on sets: where one is not declined, its program is safe and its answer means what `Meanings` says.
 use mathlib.Core.Path.{_≡_, ap, subst}
-use mathlib.Core.List.{List, [], _∷_}
-use Prim.Native.Nat.{ℕ, _<_, _≤_}
+use Prim.Native.Nat.{ℕ, _≤_}
 use native.Mathlib.Omega.{arith}
 use lib.Dec.{eqb}
 use Rattle.nodes.specs.Store.{set, Store}

@@ -1,5 +1,5 @@
 -- Operands of both kinds: how a call on a relation and sets goes on, from which handles are held and at which level.
-use mathlib.Core.Path.{_≡_, refl, sym, ap, _∙_, subst}
+use mathlib.Core.Path.{_≡_, refl, sym, _∙_, subst}
 use mathlib.Core.List.{List}
 use mathlib.Core.Bool.{Bool, true, false}
 use Prim.Native.Nat.{ℕ, _≤_}
@@ -11,9 +11,9 @@ use Rattle.nodes.specs.WellFormed.{WellFormed, is-held, level-of}
 use Rattle.memory.specs.Noting.{LevelIs}
 use Rattle.memory.specs.Rows.{places}
 use Rattle.memory.proofs.Rows.{rows-length}
-use Rattle.store.specs.Checking.{checked, Low, Goes, Checks, ChecksBoth}
+use Rattle.store.specs.Checking.{checked, Low, Checks, ChecksBoth}
 use Rattle.judging.specs.Judging.{both}
-use Rattle.store.specs.Outcome.{Verdict, declines, provided, of-pair, of-path}
+use Rattle.store.specs.Outcome.{Verdict, provided, of-pair, of-path}
 use Rattle.store.specs.declared.Check.{Check}
 use Rattle.store.specs.declared.Check.the-variants.{Level, No}
 use Rattle.store.specs.declared.Refusal.{Refusal}

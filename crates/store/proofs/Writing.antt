@@ -3,12 +3,12 @@ use mathlib.Core.Path.{_≡_, refl, sym, ap, _∙_, subst}
 use mathlib.Core.List.{List, [], _∷_, _++_, append-assoc, append-nil}
 use Prim.Native.Nat.{ℕ, zero, suc, _+_, _-_, _*_, _<_, _≤_}
 use native.Mathlib.Omega.{arith}
-use native.Mathlib.Nat.{mul-zero, mul-le-mul-left}
+use native.Mathlib.Nat.{mul-zero}
 use native.Mathlib.Numerals.{add-one}
-use lib.ListN.{length, getD, take, drop, replicate, length-append, length-drop, length-replicate, getD-replicate, take-append-drop, drop-of-length-le}
-use lib.Seq.{take-add, drop-drop, getD-take, getD-drop, ext-getD, length-take-le, take-append-add, drop-append-add}
+use lib.ListN.{length, getD, take, drop, replicate, length-drop, length-replicate, getD-replicate, take-append-drop, drop-of-length-le}
+use lib.Seq.{take-add, drop-drop, getD-take, getD-drop, ext-getD, length-take-le}
 use borrow.Rule.Slice.PartMut.{putMid}
-use Rattle.nodes.specs.Store.{Kind, set, rel, arity, Nodes}
+use Rattle.nodes.specs.Store.{Kind, arity, Nodes}
 use Rattle.memory.specs.Rows.{row, rows, places}
 use Rattle.memory.proofs.Rows.{rows-snoc, rows-length, mul-add-one, places-fit}
 use Rattle.judging.specs.Commit.{cleared}

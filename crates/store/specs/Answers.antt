@@ -1,6 +1,6 @@
 -- Document 01's number and values for every case of an answer.
 use mathlib.Core.List.{List, [], _∷_}
-use mathlib.Core.Bool.{Bool, true, false}
+use mathlib.Core.Bool.{true, false}
 use Prim.Native.Nat.{ℕ}
 use Rattle.store.specs.declared.Refusal.{Refusal}
 use Rattle.store.specs.declared.Refusal.the-variants.{NotStore, NotHeld, LevelsDiffer, NoChildren, OutOfRange, UsedUp, TooLong}

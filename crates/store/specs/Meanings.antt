@@ -1,6 +1,6 @@
 -- What the handle that a call gives means, in terms of its operands' packets in the store S before it: document 01, "The operations".
 use mathlib.Core.Path.{_≡_}
-use mathlib.Core.List.{List, [], _∷_}
+use mathlib.Core.List.{[], _∷_}
 use mathlib.Core.Logic.{_⊎_}
 use Prim.Native.Nat.{ℕ, suc, _+_, _*_}
 use lib.ListN.{getD, drop}

@@ -1,5 +1,5 @@
 -- `is_store` meets its contract: heads first, then both kinds' nodes over the cleared working memory.
-use mathlib.Core.Path.{_≡_, sym, ap, _∙_, subst}
+use mathlib.Core.Path.{sym, ap, _∙_, subst}
 use native.Mathlib.Omega.{arith}
 use lib.ListN.{length, length-replicate}
 use borrow.Author.Needs.{needs}

@@ -1,5 +1,5 @@
 -- `union` runs its program; the measure is the level.
-use mathlib.Core.Path.{_≡_, refl, ap, _∙_}
+use mathlib.Core.Path.{_∙_}
 use Prim.Native.Nat.{ℕ, _<_}
 use native.Mathlib.Omega.{arith}
 use borrow.Author.Needs.{needs}
@@ -7,11 +7,8 @@ use borrow.Author.Tests.{eq-eqb, ne-eqb, not-true, not-false}
 use borrow.Fn.Kinds.{In}
 use borrow.Fn.PlainCycle.{Measures, is, falls, and}
 use Rattle.nodes.specs.Store.{set}
-use Rattle.nodes.specs.Programs.{Prog}
-use Rattle.nodes.specs.Recursion.{node2}
 use Rattle.nodes.specs.Operations.{union-op, union-tests, union as union-program}
 use Rattle.nodes.proofs.Recursion.{node2-zero}
-use Rattle.memory.specs.Arena.{Stands}
 use Rattle.memory.proofs.Steps.{begin, by, yes, no, same-says, performs-stuck, given, called, impossible, further, answer-stands, node-stands}
 use Rattle.sets.proofs.Opened.{union-is, union-memo, union-tested}
 use Rattle.sets.proofs.Pairs.{pair-returns}

@@ -1,5 +1,4 @@
 -- `get` reads both children.
-use native.Mathlib.Omega.{arith}
 use borrow.Author.Needs.{needs}
 use Rattle.memory.proofs.Looking.{looks-two}
 use Rattle.sets.proofs.get.Statement.{statement}

@@ -1,5 +1,5 @@
 -- `mk` stores the node without the sign of its first child.
-use mathlib.Core.Path.{_≡_, refl, sym}
+use mathlib.Core.Path.{sym}
 use native.Mathlib.Omega.{arith}
 use borrow.Author.Needs.{needs}
 use Rattle.sets.proofs.Nodes.{stored-odd, stored-even}

@@ -1,12 +1,8 @@
 -- `union_tests` knows what the properties and the memo say of a union.
-use mathlib.Core.Path.{_≡_, refl}
+use mathlib.Core.Path.{refl}
 use borrow.Author.Needs.{needs}
 use borrow.Author.Tests.{lt-ltb, le-ltb}
 use Rattle.nodes.specs.Store.{set}
-use Rattle.nodes.specs.Programs.{Prog}
-use Rattle.nodes.specs.Recursion.{node2}
-use Rattle.nodes.specs.Operations.{union-op, union-tests}
-use Rattle.memory.specs.Arena.{Stands}
 use Rattle.memory.proofs.Steps.{begin, yes, no, empty-says, universal-says, less-says, answer}
 use Rattle.memory.proofs.Remembering.{answer-recalled}
 use Rattle.sets.proofs.Opened.{union-memo}

@@ -1,7 +1,6 @@
 -- `at_most_32` by its test.
 use borrow.Author.Tests.{le-leb, lt-leb}
 use Rattle.listing.specs.Listing.{at-most-32}
-use borrow.Author.Needs.{needs}
 use Rattle.listing.proofs.fields.at_most_32.Statement.{statement}
 use Rattle.listing.proofs.fields.at_most_32.Tie as tie
 

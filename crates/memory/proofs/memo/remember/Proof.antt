@@ -1,8 +1,6 @@
 -- `remember` keeps the answer where all fitted, and else changes nothing.
-use mathlib.Core.Path.{_≡_, refl, sym, _∙_}
+use mathlib.Core.Path.{refl, sym, _∙_}
 use mathlib.Core.Bool.{true, false}
-use Prim.Native.Nat.{ℕ}
-use native.Mathlib.Omega.{arith}
 use borrow.Author.Needs.{needs}
 use Rattle.memory.proofs.Steps.{false≢true}
 use Rattle.memory.proofs.memo.remember.Statement.{statement}

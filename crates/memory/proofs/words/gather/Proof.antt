@@ -1,7 +1,6 @@
 -- `memory::words::gather` meets its contract: the words of the node's kind are a part of the working memory.
-use mathlib.Core.Path.{_≡_}
 use native.Mathlib.Omega.{arith}
-use Rattle.nodes.specs.Store.{Kind, set, rel}
+use Rattle.nodes.specs.Store.{set, rel}
 use Rattle.memory.specs.Working.{Words}
 use Rattle.memory.specs.Noting.{Gathers}
 use Rattle.memory.proofs.Known.{is-set, is-rel, gathers-in, gathers-nothing}

@@ -4,7 +4,7 @@ use mathlib.Core.List.{List}
 use Prim.Native.Nat.{ℕ, _<_}
 use native.Mathlib.Omega.{arith}
 use lib.ListN.{length, getD}
-use Rattle.nodes.specs.Store.{Kind, set, arity, Store, index, handle-of}
+use Rattle.nodes.specs.Store.{Kind, set, Store, index, handle-of}
 use Rattle.memory.specs.Working.{Known}
 use Rattle.memory.specs.Noting.{WordsOf}
 use Rattle.memory.proofs.Known.{known-constant, known-nothing, known-at, is-set, is-rel}

@@ -1,7 +1,7 @@
 -- `set_word` gathers the words of two children that share a level.
 use mathlib.Core.Path.{refl, ap, _∙_}
 use mathlib.Core.Bool.{false}
-use Prim.Native.Nat.{ℕ, _+_}
+use Prim.Native.Nat.{_+_}
 use native.Mathlib.Omega.{arith}
 use Rattle.nodes.specs.Store.{set}
 use Rattle.memory.specs.Noting.{WordsOf}

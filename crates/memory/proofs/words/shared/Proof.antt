@@ -1,6 +1,4 @@
 -- `shared` joins the properties in two words, each by `both`.
-use mathlib.Core.Path.{_≡_}
-use Rattle.memory.specs.Noting.{in-both}
 use Rattle.memory.proofs.Known.{both-properties}
 use borrow.Author.Needs.{needs}
 use Rattle.memory.proofs.words.shared.Statement.{statement}

@@ -1,5 +1,5 @@
 -- `memory::words::word_of` meets its contract: a bit for each property, 8, and the level above them.
-use mathlib.Core.Path.{_≡_, sym}
+use mathlib.Core.Path.{_≡_}
 use mathlib.Core.Bool.{Bool, true, false}
 use mathlib.Core.Logic.{⊎-elim}
 use Prim.Native.Nat.{ℕ, _≤_}

@@ -1,5 +1,5 @@
 -- `field` goes on where the field is below k and the value is 0 or 1.
-use mathlib.Core.Path.{_≡_, _∙_}
+use mathlib.Core.Path.{_∙_}
 use native.Mathlib.Omega.{arith}
 use borrow.Author.Tests.{lt-ltb, le-ltb}
 use Rattle.store.proofs.Handles.{provided-yes, provided-no}

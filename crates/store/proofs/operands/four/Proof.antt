@@ -1,5 +1,5 @@
 -- `four` goes on with the children's level where all are held at one below k.
-use mathlib.Core.Path.{_≡_, _∙_}
+use mathlib.Core.Path.{_∙_}
 use borrow.Author.Needs.{needs}
 use borrow.Author.Tests.{not-true, not-false, lt-ltb, le-ltb}
 use Rattle.memory.proofs.Rows.{plain-length}

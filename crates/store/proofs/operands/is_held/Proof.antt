@@ -1,6 +1,4 @@
 -- `is_held` tells whether a handle is held: it is 0 or 1, or its place is below the count.
-use mathlib.Core.Path.{_≡_}
-use native.Mathlib.Omega.{arith}
 use borrow.Author.Needs.{needs}
 use Rattle.store.proofs.Handles.{held-low, held-place}
 use Rattle.store.proofs.operands.is_held.Statement.{statement}

@@ -1,5 +1,5 @@
 -- `one` goes on with the operand's level where it is held.
-use mathlib.Core.Path.{_≡_, _∙_}
+use mathlib.Core.Path.{_∙_}
 use borrow.Author.Needs.{needs}
 use borrow.Author.Tests.{not-true, not-false}
 use Rattle.memory.proofs.Rows.{plain-length}

@@ -1,5 +1,5 @@
 -- `two` goes on with the level of both operands where they are held at one.
-use mathlib.Core.Path.{_≡_, _∙_}
+use mathlib.Core.Path.{_∙_}
 use borrow.Author.Needs.{needs}
 use borrow.Author.Tests.{not-true, not-false}
 use Rattle.memory.proofs.Rows.{plain-length}

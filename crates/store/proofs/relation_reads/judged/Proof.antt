@@ -1,7 +1,7 @@
 -- `judged` comes to the call's outcome: its check declines, or it is answered.
 use native.Mathlib.Omega.{arith}
 use borrow.Author.Needs.{needs}
-use Rattle.nodes.specs.Store.{set, rel}
+use Rattle.nodes.specs.Store.{rel}
 use Rattle.judging.specs.Memory.{memories}
 use Rattle.store.proofs.CallSteps.{reading-declined, reading-low, reading-told}
 use Rattle.store.proofs.Running.{checked-here}
