@@ -97,7 +97,7 @@ fn rounds(drawn: &[Drawn], fields: u32, bytes: usize) -> Vec<Round> {
 fn one_round(drawn: &[Drawn], fields: u32, lent: &mut Lent, round: usize) -> Round {
     let mut times = vec![];
     for (number, Drawn { text, policy, nodes }) in drawn.iter().enumerate() {
-        let rust_first = (number + round) % 2 == 0;
+        let rust_first = (number + round).is_multiple_of(2);
         let rust = rust_first.then(|| timed(|| run_rust(fields, policy)));
         let (ours, our_time) = timed(|| lent.run(fields, text));
         let (rust, rust_time) = rust.unwrap_or_else(|| timed(|| run_rust(fields, policy)));
