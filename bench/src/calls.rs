@@ -1,12 +1,13 @@
 //! One call on stores of growing size: its time beside that of the entry check alone and of the Rust.
 
-use crate::sides::{median, timed, Lent, MOST_PLACES};
+use crate::sides::{timed, Lent, MOST_PLACES};
 use crate::tables;
 use oracle::policy::{build, judge, Policy};
 use oracle::random::Random;
 use packet_store as library;
 use reference::sp::{SPnode, SP};
 use reference::spp::{SPPnode, SPPstore, SPP};
+use std::time::Duration;
 
 /// The relation nodes of the stores.
 const SIZES: [u32; 3] = [100, 1000, 4000];
@@ -68,7 +69,7 @@ pub fn table(seed: u64, work_bytes: usize) -> String {
     let mut times = vec![];
     for size in SIZES {
         fill(&mut base.lent, size, &mut random);
-        times.push(CALLS.map(|call| time(call, &mut base)));
+        times.push(least(&mut base));
     }
     let title = format!("k = {FIELDS}, working memory {} KiB", work_bytes >> 10);
     let mut table =
@@ -89,23 +90,30 @@ pub fn table(seed: u64, work_bytes: usize) -> String {
     table
 }
 
-/// Microseconds of a call on either side, the medians of many tries from the same nodes.
-fn time((name, ours, rust): Call, base: &mut Base) -> [f64; 2] {
-    let nodes = base.lent.relations.clone();
-    let mut all = [vec![], vec![]];
+/// Microseconds of each call on either side, the least of many tries from the same nodes; the calls take turns.
+fn least(base: &mut Base) -> [[f64; 2]; CALLS.len()] {
+    let mut least = [[f64::INFINITY; 2]; CALLS.len()];
     for _ in 0..TRIES {
-        let mut lent = std::mem::replace(&mut base.lent, Lent::new(0, 0));
-        let (handle, time) = timed(|| ours(&mut lent, base));
-        all[0].push(time.as_nanos() as f64 / 1e3);
-        let added = std::mem::replace(&mut lent.relations, nodes.clone());
-        base.lent = lent;
-        let mut store = rust_store(&base.lent);
-        let (reference, time) = timed(|| rust(&mut store, base));
-        all[1].push(time.as_nanos() as f64 / 1e3);
-        assert_eq!(handle, reference, "{name}");
-        assert_eq!(added[1] as usize, store.nodes().len(), "{name}");
+        for (call, least) in CALLS.into_iter().zip(&mut least) {
+            let [ours, rust] = time(call, base).map(|time| time.as_nanos() as f64 / 1e3);
+            *least = [least[0].min(ours), least[1].min(rust)];
+        }
     }
-    all.map(|times| median(times.into_iter()))
+    least
+}
+
+/// The time of a call on either side; the nodes stay as they were.
+fn time((name, ours, rust): Call, base: &mut Base) -> [Duration; 2] {
+    let nodes = base.lent.relations.clone();
+    let mut lent = std::mem::replace(&mut base.lent, Lent::new(0, 0));
+    let (handle, our_time) = timed(|| ours(&mut lent, base));
+    let added = std::mem::replace(&mut lent.relations, nodes);
+    base.lent = lent;
+    let mut store = rust_store(&base.lent);
+    let (reference, rust_time) = timed(|| rust(&mut store, base));
+    assert_eq!(handle, reference, "{name}");
+    assert_eq!(added[1] as usize, store.nodes().len(), "{name}");
+    [our_time, rust_time]
 }
 
 /// Two relations whose union, product and star are new, and a policy, in a store of at most 100 nodes.

@@ -1,6 +1,6 @@
 //! The lister on the longest input that it takes, beside the Rust on the same policies.
 
-use crate::sides::{median, timed, Lent};
+use crate::sides::{timed, Lent};
 use crate::tables;
 use oracle::policy::{build, judge, Policy};
 use oracle::random::Random;
@@ -15,7 +15,7 @@ const MOST_BYTES: usize = 16384;
 const PLACES: usize = 2048;
 const TRIES: usize = 31;
 
-/// The times of the program at this path, or why there are none.
+/// The least times of the program at this path, or why there are none.
 pub fn table(seed: u64, program: &Path) -> String {
     if !program.is_file() {
         return "the lister is not there: `rt check lister` builds it\n".into();
@@ -25,7 +25,8 @@ pub fn table(seed: u64, program: &Path) -> String {
     let policies: Vec<Policy> =
         lines.iter().map(|line| judge(line.as_bytes(), FIELDS).expect("a policy")).collect();
     let milliseconds = |work: &mut dyn FnMut()| {
-        median((0..TRIES).map(|_| timed(&mut *work).1.as_nanos() as f64 / 1e6))
+        let times = (0..TRIES).map(|_| timed(&mut *work).1.as_nanos() as f64 / 1e6);
+        times.fold(f64::INFINITY, f64::min)
     };
     let whole = milliseconds(&mut || run(program, &input));
     let start = milliseconds(&mut || run(program, "0\n"));

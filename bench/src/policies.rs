@@ -44,32 +44,39 @@ pub fn draw(seed: u64, what: Draw) -> Vec<Drawn> {
     drawn
 }
 
-/// What was drawn, and both times for each working memory, all in the same rounds. `ratio` is the median of the rounds' ratios,
-/// `least` the ratio of each policy's least times together, on which other work of the machine has less influence.
+/// What was drawn, and both times for each working memory. `ratio` is the median of the rounds' ratios, `least` the ratio of
+/// each policy's least times together, on which other work of the machine has less influence.
 pub fn table(seed: u64, what: Draw, works: &[usize]) -> String {
     let drawn = draw(seed, what);
     let mut table = format!("k = {}, {} policies of seed {seed}\n", what.fields, what.count);
     table += &spread("bytes", drawn.iter().map(|drawn| drawn.text.len() as f64));
     table += &spread("nodes", drawn.iter().map(|drawn| f64::from(drawn.nodes)));
-    let rounds = rounds(&drawn, what.fields, works);
-    let rust = works.len();
-    let total = |round: &Round, side: usize| round[side].iter().sum::<f64>();
-    let column = |side| median(rounds.iter().map(|round| total(round, side) / 1e6));
-    let least = |side: usize| -> f64 {
-        let of = |policy| {
-            rounds.iter().map(|round: &Round| round[side][policy]).fold(f64::INFINITY, f64::min)
-        };
-        (0..drawn.len()).map(of).sum()
-    };
     table += "working memory      ours, ms      Rust, ms   ratio   least\n";
-    for (side, bytes) in works.iter().enumerate() {
-        let ratio = median(rounds.iter().map(|round| total(round, side) / total(round, rust)));
-        let [ours, theirs] = [column(side), column(rust)];
-        let least = least(side) / least(rust);
+    for &bytes in works {
+        let rounds = rounds(&drawn, what.fields, bytes);
+        let [ours, rust] =
+            [0, 1].map(|side| median(rounds.iter().map(|round| total(round, side) / 1e6)));
+        let ratio = median(rounds.iter().map(|round| total(round, 0) / total(round, 1)));
+        let least = least(&rounds, 0) / least(&rounds, 1);
         table +=
-            &format!("{:>10} KiB{ours:>14.2}{theirs:>14.2}{ratio:>8.2}{least:>8.2}\n", bytes >> 10);
+            &format!("{:>10} KiB{ours:>14.2}{rust:>14.2}{ratio:>8.2}{least:>8.2}\n", bytes >> 10);
     }
     table
+}
+
+/// The nanoseconds of each policy in a round, ours and the Rust's.
+type Round = Vec<[f64; 2]>;
+
+fn total(round: &Round, side: usize) -> f64 {
+    round.iter().map(|times| times[side]).sum()
+}
+
+/// The least times of all policies together.
+fn least(rounds: &[Round], side: usize) -> f64 {
+    let of = |policy: usize| {
+        rounds.iter().map(|round| round[policy][side]).fold(f64::INFINITY, f64::min)
+    };
+    (0..rounds[0].len()).map(of).sum()
 }
 
 /// The least, the median and the greatest of some numbers.
@@ -79,33 +86,29 @@ fn spread(title: &str, numbers: impl Iterator<Item = f64> + Clone) -> String {
     format!("{title}: {least} to {greatest}, median {}\n", median(numbers))
 }
 
-/// The nanoseconds of a round: for each working memory, and last for the Rust, those of each policy.
-type Round = Vec<Vec<f64>>;
-
 /// The times of each round; the round before them only warms up.
-fn rounds(drawn: &[Drawn], fields: u32, works: &[usize]) -> Vec<Round> {
-    let mut lents: Vec<Lent> = works.iter().map(|&bytes| Lent::new(MOST_PLACES, bytes)).collect();
-    one_round(drawn, fields, &mut lents, 0);
-    (1..=ROUNDS).map(|round| one_round(drawn, fields, &mut lents, round)).collect()
+fn rounds(drawn: &[Drawn], fields: u32, bytes: usize) -> Vec<Round> {
+    let mut lent = Lent::new(MOST_PLACES, bytes);
+    one_round(drawn, fields, &mut lent, 0);
+    (1..=ROUNDS).map(|round| one_round(drawn, fields, &mut lent, round)).collect()
 }
 
-/// Runs each policy once on every side. The sides take turns in being first.
-fn one_round(drawn: &[Drawn], fields: u32, lents: &mut [Lent], round: usize) -> Round {
-    let mut times = vec![vec![]; lents.len() + 1];
+/// Runs each policy once on both sides, which take turns in being first.
+fn one_round(drawn: &[Drawn], fields: u32, lent: &mut Lent, round: usize) -> Round {
+    let mut times = vec![];
     for (number, Drawn { text, policy, nodes }) in drawn.iter().enumerate() {
-        let rust_first = (number + round) % 2 == 0;
+        let rust_first = (number + round).is_multiple_of(2);
         let rust = rust_first.then(|| timed(|| run_rust(fields, policy)));
-        let mut handles = vec![];
-        for (lent, times) in lents.iter_mut().zip(&mut times) {
-            let (handle, time) = timed(|| lent.run(fields, text));
-            assert_eq!(lent.count(), *nodes, "policy {number}");
-            handles.push(handle);
-            times.push(time.as_nanos() as f64);
-        }
-        let ((store, handle), time) = rust.unwrap_or_else(|| timed(|| run_rust(fields, policy)));
-        assert_eq!(store.nodes().len(), *nodes as usize, "policy {number}");
-        assert!(handles.iter().all(|&ours| ours == Ok(handle)), "policy {number}");
-        times[lents.len()].push(time.as_nanos() as f64);
+        let (ours, our_time) = timed(|| lent.run(fields, text));
+        let (rust, rust_time) = rust.unwrap_or_else(|| timed(|| run_rust(fields, policy)));
+        let (store, handle) = rust;
+        assert_eq!(ours, Ok(handle), "policy {number}");
+        assert_eq!(
+            [lent.count() as usize, store.nodes().len()],
+            [*nodes as usize; 2],
+            "policy {number}"
+        );
+        times.push([our_time, rust_time].map(|time| time.as_nanos() as f64));
     }
     times
 }
