@@ -1,4 +1,3 @@
 pub mod Opened
 pub mod Children
 pub mod Moving
-pub mod Leading

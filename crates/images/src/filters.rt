@@ -55,7 +55,7 @@ pub fn ibwd(
         (now (relations .entry)) (now (relations .exit)) (now (work .entry)) (now (work .exit)) r) ⌝ }
 {
     let r = ifwd(sets, relations, work, s, level, p);
-    relations::products::flip(relations, work, r, level, r.h)
+    relations::flip(relations, work, r, level, r.h)
 }
 
 // The relation of each packet of a set to itself.

@@ -1,4 +1,4 @@
-// The operations between relations and sets, after spp.rs: each reads the nodes of both kinds in lent slices, and runs its program of `nodes`.
+// The operations between relations and sets that may add nodes, after spp.rs: each reads nodes of both kinds and runs its program of `nodes`.
 ghost use Prim.Native.Nat.{ℕ};
 ghost use Rattle.nodes.specs.Store.{set};
 ghost use Rattle.nodes.specs.Images.{two-unions, fwd, bwd};
@@ -6,7 +6,6 @@ ghost use Rattle.memory.specs.Arena.{Performs, PerformsOn, Beside};
 
 pub mod filters;
 pub mod moves;
-pub mod paths;
 
 // The operations' numbers in the memo.
 const FWD: u32 = 14;

@@ -49,11 +49,11 @@ fn image_tests(
     if p < 2 {
         return Image::Answer(lesser(p, a));
     }
-    let pp = memory::words::properties(sets, work, 2, level, p);
+    let pp = memory::words::set_properties(sets, work, level, p);
     if pp.empty {
         return Image::Answer(p);
     }
-    let pa = memory::words::properties(relations, work, 4, level, a);
+    let pa = memory::words::relation_properties(relations, work, level, a);
     if pa.identity {
         return Image::Answer(p);
     }

@@ -144,7 +144,7 @@ fn both_fit(
     nodes_fit(second, work, c2, k, n2)
 }
 
-// Whether both memories are a store; the index is then of the sets' nodes or of the relations'.
+// Whether both memories are a store; the index is then of the sets' nodes where `last` is true, else of the relations'.
 pub fn is_store(relations: &[u32], sets: &[u32], work: &mut [u32], last: bool) -> bool
     ensures { λ r. ⌜ StoreJudged (memories (now (relations .entry)) (now (sets .entry))) last (now (work .entry)) (now (work .exit)) r ⌝ }
 {

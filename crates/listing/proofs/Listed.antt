@@ -12,9 +12,9 @@ use Rattle.nodes.specs.Store.{pick}
 use Rattle.judging.specs.Memory.{Memories, memories}
 use Rattle.policies.specs.Outcome.{policy-step}
 use Rattle.policies.specs.declared.PolicyAnswer.{PolicyAnswer}
-use Rattle.store.specs.Calls.{step, new-store}
-use Rattle.store.specs.Outcome.{Told, told}
-use Rattle.store.specs.declared.Answer.{Answer}
+use Rattle.outcomes.specs.OnMemories.{new-step}
+use Rattle.outcomes.specs.Outcome.{Told, told}
+use Rattle.outcomes.specs.declared.Answer.{Answer}
 use Rattle.listing.specs.Lines.{lines}
 use Rattle.listing.specs.Listing.{answer-line, first-line, last-line, policy-lines, zeroed, listed, of-lines, width-of, too-long, listing}
 use Rattle.listing.specs.Writing.{AddsFew, PolicyLine, PolicyLines}
@@ -49,7 +49,7 @@ no-more i M at o x from past = ap (λ (l : List ℕ). take at o ++ policy-lines 
 
 -- THE WHOLE, where k is right
 pub whole : (k n r s : ℕ) (ts : List (List ℕ)) (M M′ : Memories) (a b e : ℕ) (o o′ o″ o‴ : List ℕ)
-    → r ≡ 2 + 4 * 2048 → s ≡ 1 + 2 * 2048 → M ≡ step (new-store k) (zeroed r s) .state → AddsFew 64 0 (first-line k) o o′ a
+    → r ≡ 2 + 4 * 2048 → s ≡ 1 + 2 * 2048 → M ≡ new-step k (zeroed r s) .state → AddsFew 64 0 (first-line k) o o′ a
     → PolicyLines n ts M M′ a o′ o″ b → AddsFew 64 b (last-line M′) o″ o‴ e → take e o‴ ≡ listed (Is k) ts
 unfolding listed
 whole k n r s ts M M′ a b e o o′ o″ o‴ er es begun first all last =
@@ -57,7 +57,7 @@ whole k n r s ts M M′ a b e o o′ o″ o‴ er es begun first all last =
     ∙ (sym (all .text)
     ∙ (ap (λ (l : List ℕ). l ++ policy-lines 1 ts M) (first .adds .text)
     ∙ (ap (λ (N : Memories). first-line k ++ policy-lines 1 ts N) begun
-    ∙ λ i. first-line k ++ policy-lines 1 ts (step (new-store k) (zeroed (er i) (es i)) .state))))
+    ∙ λ i. first-line k ++ policy-lines 1 ts (new-step k (zeroed (er i) (es i)) .state))))
 
 -- the first line of the input, and the others
 pub first-read : (x : List ℕ) (to : ℕ) → to ≡ 0 + indexOf 10 (slice 0 (length x) x)
@@ -86,9 +86,9 @@ counted r o y x within text is = ((within, sym (length-take-le r o within)), tex
 
 -- a new store in cleared memories
 pub begun : (k : ℕ) (a : Answer) (r s r₀ s₀ r′ s′ : List ℕ) → r ≡ replicate (length r₀) 0 → s ≡ replicate (length s₀) 0
-    → told a (memories r′ s′) ≡ step (new-store k) (memories r s) → memories r′ s′ ≡ step (new-store k) (zeroed (length r₀) (length s₀)) .state
+    → told a (memories r′ s′) ≡ new-step k (memories r s) → memories r′ s′ ≡ new-step k (zeroed (length r₀) (length s₀)) .state
 unfolding zeroed
-begun k a r s r₀ s₀ r′ s′ er es e = ap (λ (t : Told Answer Memories). t .state) e ∙ λ i. step (new-store k) (memories (er i) (es i)) .state
+begun k a r s r₀ s₀ r′ s′ er es e = ap (λ (t : Told Answer Memories). t .state) e ∙ λ i. new-step k (memories (er i) (es i)) .state
 
 -- a policy's answer and the memories after it
 pub policy-added : {t : List ℕ} {i : ℕ} {M M′ : Memories} {at r : ℕ} {o o′ : List ℕ} {a : PolicyAnswer} → told a M′ ≡ policy-step t M

@@ -2,8 +2,8 @@
 use mathlib.Core.Path.{_≡_, sym, ap, _∙_}
 use mathlib.Core.List.{List, [], _∷_, _++_, append-nil}
 use Prim.Native.Nat.{ℕ}
-use Rattle.store.specs.Answers.{number}
-use Rattle.store.specs.declared.Refusal.{Refusal}
+use Rattle.outcomes.specs.Answers.{number}
+use Rattle.outcomes.specs.declared.Refusal.{Refusal}
 use Rattle.policies.specs.Answers.{fault-number}
 use Rattle.policies.specs.declared.Fault.{Fault}
 use Rattle.policies.specs.declared.PolicyAnswer.the-variants.{Declined}

@@ -3,7 +3,7 @@ ghost use mathlib.Core.Path.{_≡_};
 ghost use Prim.Native.Nat.{_+_, _-_, _*_, _<_, _≤_};
 ghost use lib.ListN.{length, take, drop};
 ghost use Rattle.judging.specs.Memory.{memories};
-ghost use Rattle.store.specs.Calls.{step, new-store};
+ghost use Rattle.outcomes.specs.OnMemories.{new-step};
 ghost use Rattle.listing.specs.Lines.{lines};
 ghost use Rattle.listing.specs.Listing.{zeroed, listed};
 ghost use Rattle.listing.specs.Writing.{PolicyLine, PolicyLines};
@@ -12,11 +12,11 @@ ghost use Rattle.listing.specs.declared.fields.Width.the-variants.{Is};
 // A new store of k fields.
 fn begin(relations: &mut [u32], sets: &mut [u32], work: &mut [u32], k: u32)
     ensures { λ _. ⌜ memories (now (relations .exit)) (now (sets .exit))
-        ≡ step (new-store k) (zeroed (length (now (relations .entry))) (length (now (sets .entry)))) .state ⌝ }
+        ≡ new-step k (zeroed (length (now (relations .entry))) (length (now (sets .entry)))) .state ⌝ }
 {
     nodes::clear(relations);
     nodes::clear(sets);
-    store::creation::new(relations, sets, work, k);
+    new_store::new(relations, sets, work, k);
 }
 
 // Judges policy i, and writes its line.

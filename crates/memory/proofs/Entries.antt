@@ -2,11 +2,11 @@
 use mathlib.Core.Path.{_≡_, refl, sym, ap, _∙_, subst}
 use mathlib.Core.List.{List, [], _∷_}
 use mathlib.Core.Logic.{_⊎_, inl, inr, ⊎-elim}
-use Prim.Native.Nat.{ℕ, suc, _+_, _-_, _*_, _/_, _%_, _<_, _≤_}
+use Prim.Native.Nat.{ℕ, _+_, _-_, _*_, _/_, _%_, _<_, _≤_}
 use native.Mathlib.Nat.{eq-or-lt-of-le}
 use native.Mathlib.Omega.{arith}
 use lib.ListN.{length, getD, set, take, drop, length-set}
-use lib.Seq.{drop-cons, getD-set-same, getD-set-other, take-set-le, drop-set-lt, drop-set-add}
+use lib.Seq.{getD-set-same, getD-set-other, take-set-le, drop-set-lt, drop-set-add}
 use lib.Dec.{ltb}
 use borrow.Author.Tests.{ltb-true, ltb-false}
 use Rattle.nodes.specs.Store.{Store}
@@ -19,16 +19,9 @@ use Rattle.memory.specs.Memo.{memo-program}
 use Rattle.memory.specs.Working.{memo-size, tag, Entry, Remembers}
 use Rattle.memory.specs.Arena.{Recalls, Keeps}
 use Rattle.memory.specs.declared.Found.the-variants.{Answer, Operands}
+use Rattle.memory.proofs.Fours.{four, wrote}
 
 -- READING
-four : (w : List ℕ) (i : ℕ) → i + 3 < length w → take 4 (drop i w) ≡ getD w i 0 ∷ getD w (i + 1) 0 ∷ getD w (i + 2) 0 ∷ getD w (i + 3) 0 ∷ []
-four w i h =
-    let e1 : i + 1 ≡ suc i = omega arith in
-    let e2 : i + 2 ≡ suc (suc i) = omega arith in
-    let e3 : i + 3 ≡ suc (suc (suc i)) = omega arith in
-    let d : (n : ℕ) → n ≤ i + 3 → drop n w ≡ getD w n 0 ∷ drop (suc n) w = λ n l. drop-cons w n 0 (omega arith) in
-    rw (e1, e2, e3, d i (omega arith), d (suc i) (omega arith), d (suc (suc i)) (omega arith), d (suc (suc (suc i))) (omega arith))
-
 -- the entry at place j answers
 hit : (w : List ℕ) (S : Store) (j op l a b h : ℕ) → l < 256 → 0 < op → Remembers w S → 4 * j + 3 < memo-size (length w)
     → row 4 w j ≡ tag op l ∷ a ∷ b ∷ h ∷ [] → run (memo-program op l a b) S ≡ ran S h
@@ -53,9 +46,6 @@ recalls-hit w j op l a b i o lt m t ea eb = record {
 }
 
 -- WRITING
-abbrev pub wrote : List ℕ → ℕ → ℕ → ℕ → ℕ → ℕ → List ℕ
-wrote w i t a b h = set (set (set (set w i t) (i + 1) a) (i + 2) b) (i + 3) h
-
 -- a number outside of an entry leaves it
 row-other : (w : List ℕ) (i p v : ℕ) → (p < 4 * i) ⊎ (4 * i + 4 ≤ p) → row 4 (set w p v) i ≡ row 4 w i
 row-other w i p v (inl h) = ap (take 4) (drop-set-lt (4 * i) w p v h)

@@ -18,11 +18,8 @@ use Rattle.nodes.proofs.Canonical.{formed-sized}
 use Rattle.nodes.proofs.Complements.{signed-held, signed-walk}
 use Rattle.nodes.proofs.Tests.{agrees-walk, walk-agrees}
 use Rattle.memory.specs.Working.{words-at, properties-in, Has, Known, Words}
-use Rattle.memory.specs.Noting.{WordsOf, in-both, Gathers}
+use Rattle.memory.specs.Noting.{WordsOf, properties, in-both, Gathers}
 use Rattle.memory.specs.declared.Properties.{Properties}
-
-abbrev pub properties : Bool → Bool → Bool → ℕ → Properties
-properties e u i l = record { empty = e; universal = u; identity = i; level = l }
 
 -- NUMBERS
 bit-is : (b : Bool) (n : ℕ) → n ≡ pick b 1 0 → eqb n 1 ≡ b
@@ -67,12 +64,21 @@ is-rel P c n p set e = absurd (n e)
 is-rel P c n p rel e = p
 
 -- THE CONSTANTS
-pub known-constant : (K : Kind) (S : Store) (h v : ℕ) → h < 2 → (0 < v → properties-in v ≡ properties (eqb h 0) (eqb h 1) (eqb h 1) 0) → Known K S h v
+constant-has : (K : Kind) (S : Store) (h : ℕ) → h < 2 → Has K S 0 h (properties (eqb h 0) (eqb h 1) (eqb h 1) 0)
 unfolding agrees
-known-constant K S zero v b e p zero A = rw (e p) (record { empty = refl; universal = refl; identity = λ k. refl; level = refl })
-known-constant K S (suc zero) v b e p zero A = rw (e p) (record { empty = refl; universal = refl; identity = λ k. refl; level = refl })
-known-constant K S (suc (suc h)) v b e p zero A = absurd (omega arith)
+constant-has K S zero b = record { empty = refl; universal = refl; identity = λ k. refl; level = refl }
+constant-has K S (suc zero) b = record { empty = refl; universal = refl; identity = λ k. refl; level = refl }
+constant-has K S (suc (suc h)) b = absurd (omega arith)
+
+pub known-constant : (K : Kind) (S : Store) (h v : ℕ) → h < 2 → (0 < v → properties-in v ≡ properties (eqb h 0) (eqb h 1) (eqb h 1) 0) → Known K S h v
+known-constant K S h v b e p zero A = rw (e p) (constant-has K S h b)
 known-constant K S h v b e p (suc l) A = absurd (omega (arith, A .big))
+
+-- a handle of level 0
+pub zero-has : (K : Kind) (S : Store) (l h v : ℕ) → l ≡ 0 → properties-in v ≡ properties (eqb h 0) (eqb h 1) (eqb h 1) 0 → Held K S l h
+    → Has K S l h (properties-in v)
+zero-has K S zero h v z e A = rw e (constant-has K S h A)
+zero-has K S (suc l) h v z e A = absurd (omega arith)
 
 pub known-nothing : {K : Kind} {S : Store} {h : ℕ} (v : ℕ) → v ≡ 0 → Known K S h v
 known-nothing v e p = absurd (omega arith)

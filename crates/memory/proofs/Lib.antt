@@ -1,4 +1,5 @@
 pub mod Rows
+pub mod Fours
 pub mod Parts
 pub mod Chains
 pub mod Emptying

@@ -113,3 +113,12 @@ module _ (c n : ℕ) (m x : List ℕ) (sized : length x ≡ c) (fits : c * n + c
 
   pub rows-paste : rows c (n + 1) (paste m (c * n) x c) ≡ rows c n m ++ (x ∷ [])
   rows-paste = rows-snoc c n (paste m (c * n) x c) ∙ rw (rows-agree c n m (paste m (c * n) x c) paste-head, paste-row)
+
+-- a list of four numbers
+pub four-numbers : (x : List ℕ) → length x ≡ 4 → x ≡ getD x 0 0 ∷ getD x 1 0 ∷ getD x 2 0 ∷ getD x 3 0 ∷ []
+four-numbers (a ∷ b ∷ c ∷ d ∷ []) e = refl
+four-numbers [] e = absurd (omega arith)
+four-numbers (a ∷ []) e = absurd (omega arith)
+four-numbers (a ∷ b ∷ []) e = absurd (omega arith)
+four-numbers (a ∷ b ∷ c ∷ []) e = absurd (omega arith)
+four-numbers (a ∷ b ∷ c ∷ d ∷ f ∷ x) e = absurd (omega arith)

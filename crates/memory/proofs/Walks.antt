@@ -13,6 +13,9 @@ use Rattle.nodes.specs.WellFormed.{Held, WellFormed}
 use Rattle.nodes.specs.Safety.{Within}
 use Rattle.nodes.proofs.Tests.{ident, all-below-T}
 use Rattle.nodes.proofs.Levels.{agrees-once}
+use Rattle.memory.specs.Working.{Has}
+use Rattle.memory.specs.Noting.{properties}
+use Rattle.memory.specs.declared.Properties.{Properties}
 use Rattle.memory.proofs.Children.{all-true, all-false}
 
 -- a truth value by what it implies
@@ -139,3 +142,19 @@ module _ {k : ℕ} {S : Store} (l g : ℕ) (F : WellFormed k S) (pos : 0 < l) (A
 pub identity-end : (S : Store) (l g : ℕ) → l ≡ 0 → ident l g S ≡ eqb g 1
 unfolding agrees
 identity-end S l g e = ap (λ l. ident l g S) e
+
+-- THE NODE g, from its first child x: q says whether all children are x, i whether g is the identity
+module _ {k : ℕ} {S : Store} (K : Kind) (c l g x : ℕ) (q i : Bool) (p : Properties) (a : c ≡ arity K) (F : WellFormed k S) (pos : 0 < l) (A : Held K S l g)
+    (first : x ≡ child K S g 0) (all : q ≡ all-below c (λ d. eqb (child K S g d) x)) where
+  pub first-held : Held K S (l - 1) x
+  first-held = subst (Held K S (l - 1)) (sym first) (below (λ l j. Held K S l g → Held K S j (child K S g 0)) l pos (λ j A. A .below 0 (arity-pos K)) A)
+
+  one-test : (v : ℕ) (b : Bool) → to v K (l - 1) x S ≡ b → to v K l g S ≡ (q && b)
+  one-test v b e = go q refl
+    where
+      go : (r : Bool) → q ≡ r → to v K l g S ≡ (r && b)
+      go true y = walks-next K c l g v x q a F pos A first all y .1 ∙ e
+      go false y = walks-apart K c l g v x q a F pos A first all y
+
+  pub walked-has : Has K S (l - 1) x p → (K ≡ rel → agrees (ending isIdentity) K l g S ≡ i) → Has K S l g (properties (q && p .empty) (q && p .universal) i l)
+  walked-has H I = record { empty = one-test 0 (p .empty) (H .empty); universal = one-test 1 (p .universal) (H .universal); identity = I; level = refl }

@@ -4,7 +4,7 @@ use lib.Dec.{eqb, ltb}
 use Rattle.nodes.specs.Store.{set, rel, pick}
 use Rattle.nodes.specs.Programs.{Prog, panic}
 use Rattle.nodes.specs.Recursion.{node1, node2}
-use Rattle.nodes.specs.Operations.{complement-op, union-op, intersect-op, xor-op, difference-op, test, assign}
+use Rattle.nodes.specs.Operations.{constant, identity-at-depth, complement-op, union-op, intersect-op, xor-op, difference-op, test, assign}
 use Rattle.nodes.specs.Relations.{sequence-op, star-op, flip-op}
 use Rattle.nodes.specs.Sets.{intersects-op, ifelse}
 use Rattle.nodes.specs.Images.{fwd-op, bwd-op, ifwd-op, diagonal-op, push-op, pull-op, has-image-op, has-path-node}
@@ -37,4 +37,6 @@ memo-program op l a b =
     (entry op 17 (node1 diagonal-op l a)
     (entry op 18 (node2 push-op l a b)
     (entry op 19 (node2 pull-op l a b)
-    (entry op 20 (node2 has-image-op l a b) panic)))))))))))))))))))))
+    (entry op 20 (node2 has-image-op l a b)
+    (entry op 21 (constant rel a l)
+    (entry op 22 (identity-at-depth l) panic)))))))))))))))))))))))

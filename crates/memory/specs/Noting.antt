@@ -3,7 +3,7 @@ use mathlib.Core.Path.{_≡_}
 use mathlib.Core.List.{List}
 use mathlib.Core.Bool.{Bool, _&&_}
 use mathlib.Core.Logic.{_⊎_}
-use Prim.Native.Nat.{ℕ, _+_, _<_, _≤_}
+use Prim.Native.Nat.{ℕ, _+_, _-_, _<_, _≤_}
 use lib.ListN.{length, getD, set}
 use lib.Dec.{eqb}
 use Rattle.nodes.specs.Store.{Kind, rel, arity, Store, nodes, handle-of, get}
@@ -32,6 +32,13 @@ WordsOf K ws S = (i : ℕ) → i < length ws → i < length (nodes K S) → Know
 abbrev pub Read : List ℕ → ℕ → ℕ → ℕ → Type 0
 Read ws c h r = (K : Kind) (k : ℕ) (S : Store) → c ≡ arity K → WellFormed k S → WordsOf K ws S → Known K S h r
 
+-- the same, from the working memory
+abbrev pub KnownWord : List ℕ → ℕ → ℕ → ℕ → Type 0
+KnownWord w c h r = (K : Kind) (k : ℕ) (S : Store) → c ≡ arity K → WellFormed k S → Words w S → Known K S h r
+
+abbrev pub properties : Bool → Bool → Bool → ℕ → Properties
+properties e u i l = record { empty = e; universal = u; identity = i; level = l }
+
 -- what two handles of one level have both
 abbrev pub in-both : Properties → Properties → Properties
 in-both a b = record { empty = a .empty && b .empty; universal = a .universal && b .universal; identity = a .identity && b .identity; level = a .level }
@@ -55,9 +62,10 @@ abbrev pub WalksTo : List ℕ → ℕ → ℕ → ℕ → ℕ → Bool → Type 
 WalksTo m c l h v r = (K : Kind) (k : ℕ) (B : Store) (n : ℕ) → c ≡ arity K → n ≤ places c m → WellFormed k (plain K B m n) → Held K (plain K B m n) l h
     → r ≡ agrees (λ ds. v) K l h (plain K B m n)
 
--- whether the relation h, of level l, is the identity
-abbrev pub WalksIdentity : List ℕ → ℕ → ℕ → Bool → Type 0
-WalksIdentity m l h r = (k : ℕ) (B : Store) (n : ℕ) → n ≤ places 4 m → WellFormed k (plain rel B m n) → Held rel (plain rel B m n) l h
+-- whether the relation h, of level l, is the identity, where q says it of its first child x
+abbrev pub IdentityAt : List ℕ → ℕ → ℕ → ℕ → ℕ → Bool → Bool → Type 0
+IdentityAt m c l h x q r = (k : ℕ) (B : Store) (n : ℕ) → c ≡ arity rel → n ≤ places 4 m → WellFormed k (plain rel B m n) → Held rel (plain rel B m n) l h
+    → x ≡ getD (get rel (plain rel B m n) h) 0 0 → q ≡ agrees (ending isIdentity) rel (l - 1) x (plain rel B m n)
     → r ≡ agrees (ending isIdentity) rel l h (plain rel B m n)
 
 -- the level of a held handle

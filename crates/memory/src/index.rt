@@ -1,5 +1,6 @@
 // The chained index over the nodes of one kind, c numbers a node: `find` and `enter`.
 ghost use mathlib.Core.Path.{_≡_};
+ghost use mathlib.Core.List.{List};
 ghost use mathlib.Core.Bool.{Bool, true, false};
 ghost use Prim.Native.Nat.{ℕ, _+_, _*_, _%_, _<_, _≤_};
 ghost use lib.ListN.{length};
@@ -124,6 +125,17 @@ pub fn find(nodes: &[u32], work: &[u32], n: usize, x: &[u32]) -> usize
     chase(nodes, work, at, n, x)
 }
 
+// Node n, of bucket b, joins the index that begins at this place.
+pub fn link(work: &mut [u32], at: usize, n: usize, b: usize)
+    requires { ⌜ (at + 8192 ≤ length (now work)) × (n < 4096) × (b < 4096) ⌝ }
+    ensures { λ _. ⌜ ((node : ℕ → List ℕ) → at ≡ memo-size (length (now (work .entry))) → b ≡ bucket (node n)
+        → Entered node n (now (work .entry)) (now (work .exit))) ⌝ }
+{
+    let old = work[at + b];
+    work[at + PART + n] = old;
+    work[at + b] = n as u32 + 1;
+}
+
 // Node n, of c numbers, joins the index.
 pub fn enter(nodes: &[u32], work: &mut [u32], c: usize, n: usize)
     requires { ⌜ (c * n + c ≤ length (now nodes)) × (n < 4096) ⌝ }
@@ -136,9 +148,7 @@ pub fn enter(nodes: &[u32], work: &mut [u32], c: usize, n: usize)
     let s = c * n;
     let e = s + c;
     let b = hash(&nodes[s..e]);
-    let old = work[at + b];
-    work[at + PART + n] = old;
-    work[at + b] = n as u32 + 1;
+    link(work, at, n, b);
 }
 
 // Takes all nodes out of the index.

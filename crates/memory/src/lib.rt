@@ -2,6 +2,7 @@
 ghost use mathlib.Core.Path.{_≡_};
 ghost use Prim.Native.Nat.{ℕ, _*_, _/_, _<_, min};
 
+pub mod four;
 pub mod index;
 pub mod memo;
 pub mod place;
@@ -9,9 +10,9 @@ pub mod words;
 
 // Where a call stands: whether all before it fitted, the count of nodes, and the handle that the last step gave.
 pub struct Arena {
-    pub ok: bool,
     pub n: usize,
     pub h: u32,
+    pub ok: bool,
 }
 
 // What the Rust's property bits say of a handle, and its level.

@@ -9,8 +9,8 @@ fn slot(entries: usize, tag: u32, a: u32, b: u32) -> usize
     requires { ⌜ (0 < entries) × (entries ≤ 4294967296) ⌝ }
     ensures { λ r. ⌜ r < entries ⌝ }
 {
-    let h = crate::index::mix(crate::index::mix(crate::index::mix(0, tag), a), b);
-    (h * (entries as u64) / 4294967296) as usize
+    let h = (tag as u64) * 40503 + (a as u64) * 1640531527 + (b as u64) * 2246822519;
+    (h % 4294967296 * (entries as u64) / 4294967296) as usize
 }
 
 // What the memo holds on an operation of this level on a and b.

@@ -1,19 +1,22 @@
 // Property words: what is known of a handle without looking at its nodes, and the walk where nothing is known.
 ghost use mathlib.Core.Path.{_≡_};
+ghost use mathlib.Core.List.{List, [], _∷_};
 ghost use mathlib.Core.Bool.{Bool, true, false, _&&_};
 ghost use Prim.Native.Nat.{ℕ, _+_, _<_, _≤_, min};
 ghost use lib.ListN.{length, getD};
+ghost use lib.Dec.{eqb};
 ghost use Rattle.nodes.specs.Store.{Kind, set, rel, arity, Store, pick, index, get, signed};
 ghost use Rattle.nodes.specs.WellFormed.{Held, WellFormed};
 ghost use Rattle.nodes.specs.Safety.{Within};
 ghost use Rattle.memory.specs.Rows.{places, plain};
 ghost use Rattle.memory.specs.Working.{words-at, properties-in, Known, Words};
 ghost use Rattle.memory.specs.Arena.{Tells};
-ghost use Rattle.memory.specs.Noting.{Written, Noted, WordsOf, Read, in-both, Gathers, ChildOf, ChildrenAre, WalksTo, WalksIdentity, LevelIs};
+ghost use Rattle.memory.specs.Noting.{Written, Noted, WordsOf, Read, KnownWord, properties, in-both, Gathers, ChildOf, ChildrenAre};
+ghost use Rattle.memory.specs.Noting.{WalksTo, IdentityAt, LevelIs};
 
 // A word with these properties; 0 for a level that it has no room for.
 pub fn word_of(r: crate::Properties) -> u32
-    ensures { λ v. ⌜ (0 < v → properties-in v ≡ r) ⌝ }
+    ensures { λ v. ⌜ (0 < v → properties-in v ≡ r) × (r .level < 256 → 0 < v) ⌝ }
 {
     if r.level >= 256 {
         return 0;
@@ -85,17 +88,24 @@ pub fn place_of(c: usize, h: u32) -> usize
     crate::wide(h - 2)
 }
 
+// The word of 0 and 1, at level 0.
+fn constant_word(h: u32) -> u32
+    ensures { λ v. ⌜ properties-in v ≡ properties (eqb h 0) (eqb h 1) (eqb h 1) 0 ⌝ }
+{
+    word_of(crate::Properties {
+        empty: h == 0,
+        universal: h == 1,
+        identity: h == 1,
+        level: 0,
+    })
+}
+
 // What is known of a handle, as a word, where words are those of its kind's nodes.
 fn handle_word(words: &[u32], c: usize, h: u32) -> u32
     ensures { λ r. ⌜ Read (now (words .entry)) c h r ⌝ }
 {
     if h < 2 {
-        return word_of(crate::Properties {
-            empty: h == 0,
-            universal: h == 1,
-            identity: h == 1,
-            level: 0,
-        });
+        return constant_word(h);
     }
     let i = place_of(c, h);
     if i >= words.len() {
@@ -154,14 +164,13 @@ fn set_word(words: &[u32], x: &[u32]) -> u32
 }
 
 // The same of a relation's node. It is the identity where the children on the diagonal are and the others are empty.
-fn relation_word(words: &[u32], x: &[u32]) -> u32
-    requires { ⌜ length (now x) ≡ 4 ⌝ }
-    ensures { λ r. ⌜ Gathers rel (WordsOf rel (now (words .entry))) (now (x .entry)) r ⌝ }
+fn relation_word(words: &[u32], x00: u32, x01: u32, x10: u32, x11: u32) -> u32
+    ensures { λ r. ⌜ Gathers rel (WordsOf rel (now (words .entry))) (x00 ∷ x01 ∷ x10 ∷ x11 ∷ []) r ⌝ }
 {
-    let v00 = handle_word(words, 4, x[0]);
-    let v01 = handle_word(words, 4, x[1]);
-    let v10 = handle_word(words, 4, x[2]);
-    let v11 = handle_word(words, 4, x[3]);
+    let v00 = handle_word(words, 4, x00);
+    let v01 = handle_word(words, 4, x01);
+    let v10 = handle_word(words, 4, x10);
+    let v11 = handle_word(words, 4, x11);
     if v00 < 8 {
         return 0;
     }
@@ -185,17 +194,26 @@ fn relation_word(words: &[u32], x: &[u32]) -> u32
     })
 }
 
+// The word of a relation's node with these children, from theirs.
+pub fn gather_relation(work: &[u32], x00: u32, x01: u32, x10: u32, x11: u32) -> u32
+    ensures { λ r. ⌜ Gathers rel (Words (now (work .entry))) (x00 ∷ x01 ∷ x10 ∷ x11 ∷ []) r ⌝ }
+{
+    let s = words_start(work.len(), 4);
+    let e = words_end(work.len(), s);
+    relation_word(&work[s..e], x00, x01, x10, x11)
+}
+
 // The word of a node with the children x, from theirs.
 pub fn gather(work: &[u32], x: &[u32]) -> u32
     ensures { λ r. ⌜ ((K : Kind) → length (now (x .entry)) ≡ arity K → Gathers K (Words (now (work .entry))) (now (x .entry)) r) ⌝ }
 {
-    let s = words_start(work.len(), x.len());
-    let e = words_end(work.len(), s);
-    if x.len() == 2 {
-        return set_word(&work[s..e], x);
-    }
     if x.len() == 4 {
-        return relation_word(&work[s..e], x);
+        return gather_relation(work, x[0], x[1], x[2], x[3]);
+    }
+    if x.len() == 2 {
+        let s = words_start(work.len(), 2);
+        let e = words_end(work.len(), s);
+        return set_word(&work[s..e], x);
     }
     0
 }
@@ -279,55 +297,80 @@ fn walks_to(nodes: &[u32], c: usize, level: u8, h: u32, v: u32) -> bool
     g == v
 }
 
-// Whether the relation h, of this level, is the identity.
-fn walks_identity(nodes: &[u32], level: u8, h: u32) -> bool
-    ensures { λ r. ⌜ WalksIdentity (now (nodes .entry)) level h r ⌝ }
+// Whether h, of this level, is the identity, where inner says it of its first child x00; a set is not.
+fn is_identity(nodes: &[u32], c: usize, level: u8, h: u32, x00: u32, inner: bool) -> bool
+    requires { ⌜ 0 < level ⌝ }
+    ensures { λ r. ⌜ IdentityAt (now (nodes .entry)) c level h x00 inner r ⌝ }
 {
-    let mut g = h;
-    let mut l = level;
-    while l > 0 {
-        let x00 = child_of(nodes, 4, g, 0);
-        let x01 = child_of(nodes, 4, g, 1);
-        if child_of(nodes, 4, g, 2) != x01 {
-            return false;
-        }
-        if child_of(nodes, 4, g, 3) != x00 {
-            return false;
-        }
-        l -= 1;
-        if !walks_to(nodes, 4, l, x01, 0) {
-            return false;
-        }
-        g = x00;
+    if c != 4 {
+        return false;
     }
-    g == 1
+    let x01 = child_of(nodes, 4, h, 1);
+    if child_of(nodes, 4, h, 2) != x01 {
+        return false;
+    }
+    if child_of(nodes, 4, h, 3) != x00 {
+        return false;
+    }
+    if !walks_to(nodes, 4, level - 1, x01, 0) {
+        return false;
+    }
+    inner
 }
 
-// The properties of a handle of this level: from its word, else from its nodes.
-pub fn properties(nodes: &[u32], work: &[u32], c: usize, level: u8, h: u32) -> crate::Properties
+// The word of a handle of this level, from its nodes: a property of all children is one of the first, and they are then one handle.
+fn walked(nodes: &[u32], c: usize, level: u8, h: u32) -> u32
     requires { ⌜ 0 < c ⌝ }
-    ensures { λ r. ⌜ ((K : Kind) → c ≡ arity K → Tells K (now (nodes .entry)) (now (work .entry)) level h r) ⌝ }
+    ensures { λ r. ⌜ ((K : Kind) (w : List ℕ) → c ≡ arity K → Tells K (now (nodes .entry)) w level h (properties-in r)) ⌝ }
+{
+    if level == 0 {
+        return constant_word(h);
+    }
+    let l = level as u32;
+    let x = child_of(nodes, c, h, 0);
+    let p = properties_in(walked(nodes, c, level - 1, x));
+    let same = children_are(nodes, c, h, x);
+    word_of(crate::Properties {
+        empty: both(same, p.empty),
+        universal: both(same, p.universal),
+        identity: is_identity(nodes, c, level, h, x, p.identity),
+        level: l,
+    })
+}
+
+// What the working memory knows of a handle, as a word.
+fn known_word(work: &[u32], c: usize, h: u32) -> u32
+    ensures { λ r. ⌜ KnownWord (now (work .entry)) c h r ⌝ }
 {
     let s = words_start(work.len(), c);
     let e = words_end(work.len(), s);
-    let v = handle_word(&work[s..e], c, h);
+    handle_word(&work[s..e], c, h)
+}
+
+// A handle's word: the one that the working memory has, else from its nodes.
+fn word(nodes: &[u32], work: &[u32], c: usize, level: u8, h: u32) -> u32
+    requires { ⌜ 0 < c ⌝ }
+    ensures { λ r. ⌜ ((K : Kind) → c ≡ arity K → Tells K (now (nodes .entry)) (now (work .entry)) level h (properties-in r)) ⌝ }
+{
+    let v = known_word(work, c, h);
     if v != 0 {
-        return properties_in(v);
+        return v;
     }
-    let l = level as u32;
-    let e = walks_to(nodes, c, level, h, 0);
-    let u = walks_to(nodes, c, level, h, 1);
-    let i = if c == 4 {
-        walks_identity(nodes, level, h)
-    } else {
-        false
-    };
-    crate::Properties {
-        empty: e,
-        universal: u,
-        identity: i,
-        level: l,
-    }
+    walked(nodes, c, level, h)
+}
+
+// The properties of a relation of this level.
+pub fn relation_properties(nodes: &[u32], work: &[u32], level: u8, h: u32) -> crate::Properties
+    ensures { λ r. ⌜ Tells rel (now (nodes .entry)) (now (work .entry)) level h r ⌝ }
+{
+    properties_in(word(nodes, work, 4, level, h))
+}
+
+// The same of a set.
+pub fn set_properties(nodes: &[u32], work: &[u32], level: u8, h: u32) -> crate::Properties
+    ensures { λ r. ⌜ Tells set (now (nodes .entry)) (now (work .entry)) level h r ⌝ }
+{
+    properties_in(word(nodes, work, 2, level, h))
 }
 
 // A handle's level, by its first children; at most k.

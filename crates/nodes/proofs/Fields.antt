@@ -7,14 +7,14 @@ use mathlib.Core.Bool.{Bool, true, false}
 use Prim.Native.Nat.{ℕ, zero, suc, _+_, _<_}
 use native.Mathlib.Omega.{arith}
 use lib.Dec.{eqb, eqb→eq}
-use Rattle.nodes.specs.Meaning.{Rel, Relates, bit-of, Passes, Assign, Filter}
+use Rattle.nodes.specs.Meaning.{Rel, Relates, Same, bit-of, Passes, Assign, Filter}
 use Rattle.nodes.specs.Operations.{fields, test-node, assign-node, test, assign}
 use Rattle.nodes.specs.Packets.{none, more, Packet, relates}
 use Rattle.nodes.specs.Programs.{mk}
 use Rattle.nodes.specs.Store.{rel, Store, pick}
 use Rattle.nodes.specs.WellFormed.{WellFormed, Extends}
 use Rattle.nodes.proofs.Bools.{eqb-iff}
-use Rattle.nodes.proofs.Pairs.{Same, relates-iff, relates-ext, Matrix, mk-relates}
+use Rattle.nodes.proofs.Pairs.{relates-iff, relates-ext, Matrix, mk-relates}
 use Rattle.nodes.proofs.Rules.{Does, ret-does, post-does, bind-does}
 
 abbrev Field : (ℕ → ℕ → Type 0) → ℕ → Rel

@@ -8,14 +8,14 @@ use native.Mathlib.Omega.{arith}
 use lib.Dec.{T, ltb→lt, nltb→le}
 use Rattle.nodes.specs.Images.{two-unions, fwd-op, fwd, bwd-op, bwd, ifwd-op, ifwd, ibwd, diagonal-op, diagonal, image-short, push-op, push}
 use Rattle.nodes.specs.Images.{pull-op, pull}
-use Rattle.nodes.specs.Meaning.{Sem, Rel, Den, Relates, Some, Filter, Range, Domain, Image, Preimage}
+use Rattle.nodes.specs.Meaning.{Sem, Rel, Den, Relates, Same, Some, Filter, Range, Domain, Image, Preimage}
 use Rattle.nodes.specs.Packets.{Digits, none, more, Packet, walk, relates}
 use Rattle.nodes.specs.Programs.{isEmpty, isUniversal, isIdentity, less, has, Prog, ret, ask}
 use Rattle.nodes.specs.Store.{Kind, set, rel, Store}
 use Rattle.nodes.specs.WellFormed.{Held, WellFormed}
 use Rattle.nodes.proofs.Constants.{zero-does, full-does}
 use Rattle.nodes.proofs.Extends.{ext-trans}
-use Rattle.nodes.proofs.Pairs.{Same, relates-iff, relates-ext, block, relates-x00, relates-x01, relates-x10, relates-x11, mk-relates}
+use Rattle.nodes.proofs.Pairs.{relates-iff, relates-ext, block, relates-x00, relates-x01, relates-x10, relates-x11, mk-relates}
 use Rattle.nodes.proofs.Pairs.{zero-relates, rel-empty, rel-full, rel-ident}
 use Rattle.nodes.proofs.Pointwise.{union-does}
 use Rattle.nodes.proofs.Recursion.{Sound1, op1-does, Sound2, op2-does}

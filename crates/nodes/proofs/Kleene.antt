@@ -5,10 +5,10 @@ use mathlib.Core.Logic.{_⊎_, inl, inr, _↔_}
 use mathlib.Core.List.{List, _∷_}
 use Prim.Native.Nat.{ℕ, zero, suc, _<_}
 use native.Mathlib.Omega.{arith}
-use Rattle.nodes.specs.Meaning.{Rel, Compose, Steps, Star}
+use Rattle.nodes.specs.Meaning.{Rel, Same, Compose, Steps, Star}
 use Rattle.nodes.specs.Packets.{more, Packet}
 use Rattle.nodes.proofs.Bools.{on-bits}
-use Rattle.nodes.proofs.Pairs.{Same, block, Matrix}
+use Rattle.nodes.proofs.Pairs.{block, Matrix}
 
 pub data Way (l : ℕ) (R : Rel) (q : List ℕ) : List ℕ → Type 0 where
   stop : Way l R q q

@@ -7,7 +7,7 @@ use Prim.Native.Nat.{ℕ, suc, _+_, _*_, _/_, _%_, _<_, _≤_}
 use native.Mathlib.Omega.{arith}
 use lib.ListN.{getD}
 use lib.Dec.{eqb, T, eqb→eq, eqb-refl}
-use Rattle.nodes.specs.Meaning.{Sem, Rel, Den, Relates, Some}
+use Rattle.nodes.specs.Meaning.{Sem, Rel, Den, Relates, Same, Some}
 use Rattle.nodes.specs.Operations.{zero-at-depth, top-at-depth, union}
 use Rattle.nodes.specs.Packets.{Digits, none, more, Packet, digits, relates}
 use Rattle.nodes.specs.Programs.{isIdentity, ending, mk}
@@ -78,9 +78,6 @@ module _ {l : ℕ} {R : Rel} {S : Store} {h : ℕ} where
     held = A .held;
     means = by-pairs (λ p q. relates S h p q ↔ R p q) (λ ds D. rw digits-back (A .means ds D));
   }
-
-abbrev pub Same : ℕ → Rel → Rel → Type 0
-Same l R R′ = (p q : List ℕ) → Packet l p → Packet l q → R p q ↔ R′ p q
 
 pub relates-iff : {l : ℕ} {R R′ : Rel} {S : Store} {h : ℕ} → Same l R R′ → Relates l R S h → Relates l R′ S h
 relates-iff e A = record { held = A .held; means = λ p q P Q. Iff·trans (A .means p q P Q) (e p q P Q) }

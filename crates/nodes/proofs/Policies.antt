@@ -6,7 +6,7 @@ use mathlib.Core.Bool.{true}
 use Prim.Native.Nat.{ℕ, zero, suc}
 use native.Mathlib.Omega.{arith}
 use lib.Dec.{T, ltb→lt}
-use Rattle.nodes.specs.Meaning.{Rel, Relates, Filter, Without, Steps}
+use Rattle.nodes.specs.Meaning.{Rel, Relates, Same, Filter, Without, Steps}
 use Rattle.nodes.specs.Operations.{difference}
 use Rattle.nodes.specs.Packets.{none, more}
 use Rattle.nodes.specs.Policies.{Policy, fail, skip, tests, assigns, negates, plus, seq, stars, meaning, fields-below?, policy-program}
@@ -14,7 +14,7 @@ use Rattle.nodes.specs.Store.{rel, Store}
 use Rattle.nodes.specs.WellFormed.{WellFormed}
 use Rattle.nodes.proofs.Bools.{and-T}
 use Rattle.nodes.proofs.Fields.{test-does, assign-does}
-use Rattle.nodes.proofs.Pairs.{Same, relates-den, den-relates, relates-iff, relates-ext, union-relates, zero-relates, one-handle}
+use Rattle.nodes.proofs.Pairs.{relates-den, den-relates, relates-iff, relates-ext, union-relates, zero-relates, one-handle}
 use Rattle.nodes.proofs.Pointwise.{difference-does}
 use Rattle.nodes.proofs.Rules.{Does, post-does, bind-does}
 use Rattle.nodes.proofs.Sequence.{sequence-does}

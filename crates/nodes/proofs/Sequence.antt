@@ -6,7 +6,7 @@ use mathlib.Core.Bool.{not}
 use Prim.Native.Nat.{ℕ, zero, suc, _<_, _≤_}
 use native.Mathlib.Omega.{arith}
 use lib.Dec.{T}
-use Rattle.nodes.specs.Meaning.{Rel, Relates, Compose}
+use Rattle.nodes.specs.Meaning.{Rel, Relates, Same, Compose}
 use Rattle.nodes.specs.Operations.{union}
 use Rattle.nodes.specs.Packets.{more, Packet}
 use Rattle.nodes.specs.Programs.{isEmpty, isIdentity, agrees, has, Prog}
@@ -14,7 +14,7 @@ use Rattle.nodes.specs.Relations.{sequence-op, sequence}
 use Rattle.nodes.specs.Store.{rel, Store, get}
 use Rattle.nodes.specs.WellFormed.{WellFormed, Extends}
 use Rattle.nodes.proofs.Extends.{ext-refl, ext-trans}
-use Rattle.nodes.proofs.Pairs.{Same, relates-iff, relates-ext, block, relates-x00, relates-x01, relates-x10, relates-x11, mk-relates}
+use Rattle.nodes.proofs.Pairs.{relates-iff, relates-ext, block, relates-x00, relates-x01, relates-x10, relates-x11, mk-relates}
 use Rattle.nodes.proofs.Pairs.{union-relates, rel-empty, rel-ident}
 use Rattle.nodes.proofs.Recursion.{Sound2, op2-does}
 use Rattle.nodes.proofs.Rules.{Kept, Does, ret-does, ask-does, post-does, four-does}

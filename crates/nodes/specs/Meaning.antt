@@ -26,6 +26,10 @@ pub record Relates (l : ℕ) (R : Rel) (S : Store) (h : ℕ) : Type 0 where
   pub held : Held rel S l h
   pub means : (p q : List ℕ) → Packet l p → Packet l q → relates S h p q ↔ R p q
 
+-- R and R′ relate the same packets of l fields
+abbrev pub Same : ℕ → Rel → Rel → Type 0
+Same l R R′ = (p q : List ℕ) → Packet l p → Packet l q → R p q ↔ R′ p q
+
 -- h is a yes, 1, exactly where X is so, else a no, 0
 pub record Says (X : Type 0) (h : ℕ) : Type 0 where
   pub bit : h < 2

@@ -1,3 +1,4 @@
+// Clearing, the one piece of code that the plain store's crate has: all crates above use it.
 ghost use mathlib.Core.Path.{_≡_};
 ghost use lib.ListN.{length, replicate};
 

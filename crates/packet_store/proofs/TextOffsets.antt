@@ -11,9 +11,9 @@ use Rattle.nodes.specs.Store.{Store as Nodes, pick}
 use Rattle.nodes.proofs.Bools.{by-test}
 use Rattle.judging.specs.Memory.{Memories, fields, decode, encode}
 use Rattle.judging.specs.Valid.{store?}
-use Rattle.store.specs.Calls.{set-places, rel-places}
-use Rattle.store.specs.Outcome.{told}
-use Rattle.store.specs.declared.Refusal.the-variants.{NotStore, TooLong, UsedUp}
+use Rattle.outcomes.specs.OnMemories.{set-places, rel-places}
+use Rattle.outcomes.specs.Outcome.{told}
+use Rattle.outcomes.specs.declared.Refusal.the-variants.{NotStore, TooLong, UsedUp}
 use Rattle.texts.specs.Answers.{Says}
 use Rattle.texts.specs.Reading.{reading}
 use Rattle.texts.specs.declared.Reading.{Reading}
@@ -23,7 +23,7 @@ use Rattle.policies.specs.Outcome.{TextVerdict, refuses, builds, of-reading, sh
 use Rattle.policies.specs.declared.PolicyAnswer.{PolicyAnswer}
 use Rattle.policies.specs.declared.PolicyAnswer.the-variants.{Handle, Declined}
 use Rattle.policies.specs.declared.PolicyRefusal.the-variants.{Store}
-use Rattle.packet_store.specs.Packed.{offset}
+use Rattle.packet_store.specs.Exported.{offset}
 
 abbrev verdict-offset : TextVerdict → ℕ
 verdict-offset (refuses r) = offset (Declined r)

@@ -1,7 +1,7 @@
 // The call that begins a store, under its C name.
 ghost use Rattle.judging.specs.Memory.{memories};
 ghost use Rattle.store.specs.Calls.{new-store};
-ghost use Rattle.packet_store.specs.Packed.{Answers};
+ghost use Rattle.packet_store.specs.Exported.{Answers};
 
 // A store of k fields in both memories.
 #[no_mangle]
@@ -14,5 +14,5 @@ pub extern "C" fn packet_store_new(
     ensures { λ r. ⌜ Answers (new-store k) (memories (now (relations .entry)) (now (sets .entry)))
         (memories (now (relations .exit)) (now (sets .exit))) (now (work .entry)) (now (work .exit)) r ⌝ }
 {
-    crate::answers::pack(store::creation::new(relations, sets, work, k))
+    packing::pack(new_store::new(relations, sets, work, k))
 }

@@ -2,7 +2,7 @@
 ghost use Rattle.judging.specs.Memory.{memories};
 ghost use Rattle.store.specs.Calls.{filter-call};
 ghost use Rattle.store.specs.declared.filter_calls.FilterCall.the-variants.{Diagonal, Ifwd, Ibwd};
-ghost use Rattle.packet_store.specs.Packed.{Answers};
+ghost use Rattle.packet_store.specs.Exported.{Answers};
 use store::filter_calls::FilterCall;
 
 // Any of these calls, its answer packed.
@@ -10,7 +10,7 @@ fn packed(relations: &mut [u32], sets: &[u32], work: &mut [u32], call: FilterCal
     ensures { λ r. ⌜ Answers (filter-call call) (memories (now (relations .entry)) (now (sets .entry)))
         (memories (now (relations .exit)) (now (sets .entry))) (now (work .entry)) (now (work .exit)) r ⌝ }
 {
-    crate::answers::pack(store::filter_calls::filter_call(relations, sets, work, call))
+    packing::pack(store::filter_calls::filter_call(relations, sets, work, call))
 }
 
 // Each packet of p, to itself.

@@ -2,7 +2,7 @@
 ghost use Rattle.judging.specs.Memory.{memories};
 ghost use Rattle.store.specs.Calls.{image-call};
 ghost use Rattle.store.specs.declared.image_calls.ImageCall.the-variants.{Fwd, Bwd, Push, Pull};
-ghost use Rattle.packet_store.specs.Packed.{Answers};
+ghost use Rattle.packet_store.specs.Exported.{Answers};
 use store::image_calls::ImageCall;
 
 // Any of these calls, its answer packed.
@@ -10,7 +10,7 @@ fn packed(relations: &[u32], sets: &mut [u32], work: &mut [u32], call: ImageCall
     ensures { λ r. ⌜ Answers (image-call call) (memories (now (relations .entry)) (now (sets .entry)))
         (memories (now (relations .entry)) (now (sets .exit))) (now (work .entry)) (now (work .exit)) r ⌝ }
 {
-    crate::answers::pack(store::image_calls::image_call(relations, sets, work, call))
+    packing::pack(store::image_calls::image_call(relations, sets, work, call))
 }
 
 // The outputs of a.

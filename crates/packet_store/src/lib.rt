@@ -1,5 +1,4 @@
 // The calls of a packet store under C names: include/packet_store.h says what each does.
-pub mod answers;
 pub mod creation;
 pub mod filter_calls;
 pub mod image_calls;

@@ -2,7 +2,7 @@
 ghost use Rattle.judging.specs.Memory.{memories};
 ghost use Rattle.store.specs.Calls.{path-read};
 ghost use Rattle.store.specs.declared.path_reads.PathRead.the-variants.{HasImage, HasPath};
-ghost use Rattle.packet_store.specs.Packed.{Answers};
+ghost use Rattle.packet_store.specs.Exported.{Answers};
 use store::path_reads::PathRead;
 
 // Any of these calls, its answer packed.
@@ -10,7 +10,7 @@ fn packed(relations: &[u32], sets: &[u32], work: &mut [u32], call: PathRead) -> 
     ensures { λ r. ⌜ Answers (path-read call) (memories (now (relations .entry)) (now (sets .entry)))
         (memories (now (relations .entry)) (now (sets .entry))) (now (work .entry)) (now (work .exit)) r ⌝ }
 {
-    crate::answers::pack(store::path_reads::path_read(relations, sets, work, call))
+    packing::pack(store::path_reads::path_read(relations, sets, work, call))
 }
 
 // Whether a relates some packet of p to any.

@@ -3,7 +3,7 @@ ghost use mathlib.Core.Path.{_≡_};
 ghost use Prim.Native.Nat.{_≤_};
 ghost use Rattle.judging.specs.Memory.{memories};
 ghost use Rattle.policies.specs.declared.PolicyAnswer.the-variants.{Declined};
-ghost use Rattle.packet_store.specs.Packed.{offset, packed-policy, AnswersPolicy};
+ghost use Rattle.packet_store.specs.Exported.{offset, packed-policy, AnswersPolicy};
 use policies::PolicyAnswer;
 use policies::PolicyRefusal;
 
@@ -14,7 +14,7 @@ fn pack_refusal(r: PolicyRefusal) -> u64
 {
     match r {
         PolicyRefusal::At(f, i) => policies::fault_number(f) as u64 * 0x1_0000_0000 + i as u64,
-        PolicyRefusal::Store(s) => store::number_of(s) as u64 * 0x1_0000_0000,
+        PolicyRefusal::Store(s) => outcomes::number_of(s) as u64 * 0x1_0000_0000,
     }
 }
 

@@ -3,7 +3,7 @@ ghost use Rattle.judging.specs.Memory.{memories};
 ghost use Rattle.store.specs.Calls.{relation-call};
 ghost use Rattle.store.specs.declared.relation_calls.RelationCall.the-variants.{Mk, Zero, One, Top, Union, Intersect, Xor, Difference, Complement};
 ghost use Rattle.store.specs.declared.relation_calls.RelationCall.the-variants.{Sequence, Star, Flip, Test, Assign, NaiveForward, Backward};
-ghost use Rattle.packet_store.specs.Packed.{Answers};
+ghost use Rattle.packet_store.specs.Exported.{Answers};
 use store::relation_calls::RelationCall;
 
 // Any of these calls, its answer packed.
@@ -11,7 +11,7 @@ fn packed(relations: &mut [u32], sets: &[u32], work: &mut [u32], call: RelationC
     ensures { λ r. ⌜ Answers (relation-call call) (memories (now (relations .entry)) (now (sets .entry)))
         (memories (now (relations .exit)) (now (sets .entry))) (now (work .entry)) (now (work .exit)) r ⌝ }
 {
-    crate::answers::pack(store::relation_calls::relation_call(relations, sets, work, call))
+    packing::pack(store::relation_calls::relation_call(relations, sets, work, call))
 }
 
 // The relation with these children: the first digit is the input's bit, the second the output's.

@@ -2,7 +2,8 @@
 ghost use Rattle.judging.specs.Memory.{memories};
 ghost use Rattle.store.specs.Calls.{relation-read};
 ghost use Rattle.store.specs.declared.relation_reads.RelationRead.the-variants.{Get, IsZero, Relates};
-ghost use Rattle.packet_store.specs.Packed.{filled-relation, Answers, AnswersChildren};
+ghost use Rattle.packing.specs.Packed.{filled-relation};
+ghost use Rattle.packet_store.specs.Exported.{Answers, AnswersChildren};
 use store::relation_reads::RelationRead;
 
 // Any of these calls, its answer packed.
@@ -10,7 +11,7 @@ fn packed(relations: &[u32], sets: &[u32], work: &mut [u32], call: RelationRead)
     ensures { λ r. ⌜ Answers (relation-read call) (memories (now (relations .entry)) (now (sets .entry)))
         (memories (now (relations .entry)) (now (sets .entry))) (now (work .entry)) (now (work .exit)) r ⌝ }
 {
-    crate::answers::pack(store::relation_reads::relation_read(relations, sets, work, call))
+    packing::pack(store::relation_reads::relation_read(relations, sets, work, call))
 }
 
 // The children of a, written where it has them.
@@ -26,8 +27,8 @@ pub extern "C" fn packet_store_relation_get(
         (now (work .entry)) (now (work .exit)) (now (children .entry)) (now (children .exit)) r ⌝ }
 {
     let r = store::relation_reads::relation_read(relations, sets, work, RelationRead::Get(a));
-    crate::answers::fill_relation(r, children);
-    crate::answers::pack(r)
+    packing::fill_relation(r, children);
+    packing::pack(r)
 }
 
 // Whether a relates nothing.

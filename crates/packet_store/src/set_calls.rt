@@ -2,7 +2,7 @@
 ghost use Rattle.judging.specs.Memory.{memories};
 ghost use Rattle.store.specs.Calls.{set-call};
 ghost use Rattle.store.specs.declared.set_calls.SetCall.the-variants.{Mk, Zero, One, Union, Intersect, Xor, Difference, Test, Ifelse};
-ghost use Rattle.packet_store.specs.Packed.{Answers};
+ghost use Rattle.packet_store.specs.Exported.{Answers};
 use store::set_calls::SetCall;
 
 // Any of these calls, its answer packed.
@@ -10,7 +10,7 @@ fn packed(relations: &[u32], sets: &mut [u32], work: &mut [u32], call: SetCall) 
     ensures { λ r. ⌜ Answers (set-call call) (memories (now (relations .entry)) (now (sets .entry)))
         (memories (now (relations .entry)) (now (sets .exit))) (now (work .entry)) (now (work .exit)) r ⌝ }
 {
-    crate::answers::pack(store::set_calls::set_call(relations, sets, work, call))
+    packing::pack(store::set_calls::set_call(relations, sets, work, call))
 }
 
 // The set with these children.

@@ -2,7 +2,8 @@
 ghost use Rattle.judging.specs.Memory.{memories};
 ghost use Rattle.store.specs.Calls.{set-read};
 ghost use Rattle.store.specs.declared.set_reads.SetRead.the-variants.{Get, Complement, IsZero, Intersects};
-ghost use Rattle.packet_store.specs.Packed.{filled-set, Answers, AnswersChildren};
+ghost use Rattle.packing.specs.Packed.{filled-set};
+ghost use Rattle.packet_store.specs.Exported.{Answers, AnswersChildren};
 use store::set_reads::SetRead;
 
 // Any of these calls, its answer packed.
@@ -10,7 +11,7 @@ fn packed(relations: &[u32], sets: &[u32], work: &mut [u32], call: SetRead) -> u
     ensures { λ r. ⌜ Answers (set-read call) (memories (now (relations .entry)) (now (sets .entry)))
         (memories (now (relations .entry)) (now (sets .entry))) (now (work .entry)) (now (work .exit)) r ⌝ }
 {
-    crate::answers::pack(store::set_reads::set_read(relations, sets, work, call))
+    packing::pack(store::set_reads::set_read(relations, sets, work, call))
 }
 
 // The children of a, written where it has them.
@@ -26,8 +27,8 @@ pub extern "C" fn packet_store_set_get(
         (now (work .entry)) (now (work .exit)) (now (children .entry)) (now (children .exit)) r ⌝ }
 {
     let r = store::set_reads::set_read(relations, sets, work, SetRead::Get(a));
-    crate::answers::fill_set(r, children);
-    crate::answers::pack(r)
+    packing::fill_set(r, children);
+    packing::pack(r)
 }
 
 // The packets that are not in a.

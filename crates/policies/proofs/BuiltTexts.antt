@@ -15,20 +15,19 @@ use Rattle.memory.specs.declared.Arena.{Arena}
 use Rattle.memory.proofs.Steps.{false≢true}
 use Rattle.judging.specs.Commit.{Committed}
 use Rattle.judging.specs.Memory.{Memories, count, fields, decode, encode}
-use Rattle.store.specs.Calls.{set-places, rel-places}
-use Rattle.store.specs.Checking.{Accepted}
-use Rattle.store.specs.Finishing.{Finished}
-use Rattle.store.specs.Outcome.{Verdict, runs, told}
-use Rattle.store.specs.declared.Answer as store
-use Rattle.store.specs.declared.Refusal.the-variants.{TooLong, UsedUp}
-use Rattle.store.proofs.Outcomes.{with-memory, judged}
-use Rattle.store.proofs.Running.{part-of, within-memory, ran-here}
+use Rattle.outcomes.specs.OnMemories.{set-places, rel-places}
+use Rattle.outcomes.specs.Checking.{Accepted}
+use Rattle.outcomes.specs.Finishing.{Finished}
+use Rattle.outcomes.specs.Outcome.{Verdict, runs, told, retold}
+use Rattle.outcomes.specs.declared.Answer as store
+use Rattle.outcomes.specs.declared.Refusal.the-variants.{TooLong, UsedUp}
+use Rattle.outcomes.proofs.Outcomes.{with-memory, judged}
+use Rattle.outcomes.proofs.Running.{part-of, within-memory, ran-here}
 use Rattle.texts.specs.Answers.{tree}
 use Rattle.texts.specs.Reading.{reading}
 use Rattle.texts.specs.declared.Reading.{Reading}
 use Rattle.texts.proofs.Says.{tree-keeps}
-use Rattle.policies.specs.Building.{BuildsText}
-use Rattle.policies.specs.Lists.{retold}
+use Rattle.building.specs.Building.{BuildsText}
 use Rattle.policies.specs.Outcome.{refuses, builds, of-reading, short?, text-verdict, text-concludes, policy-step}
 use Rattle.policies.specs.declared.PolicyAnswer.{PolicyAnswer}
 use Rattle.policies.specs.declared.PolicyRefusal.{PolicyRefusal}

@@ -1,12 +1,2 @@
-pub mod Suffixes
-pub mod Digits
-pub mod Names
-pub mod Chains
-pub mod Loops
-pub mod Atoms
 pub mod TextOutcomes
 pub mod BuiltTexts
-pub mod OneText
-pub mod AllCalls
-pub mod EveryList
-pub mod WrongTexts

@@ -1,7 +1,7 @@
 -- Document 01's number and values for every case of a policy's answer.
 use mathlib.Core.List.{List, [], _∷_}
 use Prim.Native.Nat.{ℕ}
-use Rattle.store.specs.Answers.{number}
+use Rattle.outcomes.specs.Answers.{number}
 use Rattle.policies.specs.declared.Fault.{Fault}
 use Rattle.policies.specs.declared.Fault.the-variants.{NotPolicy, NotPredicate, TooDeep, NoField}
 use Rattle.policies.specs.declared.PolicyAnswer.{PolicyAnswer}

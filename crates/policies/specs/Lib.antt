@@ -1,5 +1,2 @@
 pub mod Answers
 pub mod Outcome
-pub mod Lists
-pub mod Items
-pub mod Building

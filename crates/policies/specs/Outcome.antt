@@ -1,4 +1,4 @@
--- What a policy call comes to, in document 01's order of refusals, on two memories and on the plain store.
+-- What a policy call comes to, in document 01's order of refusals.
 use mathlib.Core.Bool.{Bool}
 use mathlib.Core.List.{List}
 use Prim.Native.Nat.{ℕ}
@@ -10,10 +10,9 @@ use Rattle.nodes.specs.Programs.{Prog, run}
 use Rattle.nodes.specs.Store.{Store as Nodes, pick}
 use Rattle.judging.specs.Memory.{Memories, fields, decode, encode}
 use Rattle.judging.specs.Valid.{store?}
-use Rattle.store.specs.Calls.{set-places, rel-places}
-use Rattle.store.specs.Outcome.{Told, told}
-use Rattle.store.specs.PlainStore.{Plain, plain-store}
-use Rattle.store.specs.declared.Refusal.the-variants.{NotStore, TooLong, UsedUp}
+use Rattle.outcomes.specs.OnMemories.{set-places, rel-places}
+use Rattle.outcomes.specs.Outcome.{Told, told}
+use Rattle.outcomes.specs.declared.Refusal.the-variants.{NotStore, TooLong, UsedUp}
 use Rattle.texts.specs.Answers.{tree}
 use Rattle.texts.specs.Reading.{reading}
 use Rattle.texts.specs.declared.Reading.{Reading}
@@ -56,7 +55,3 @@ unfoldable pub policy-step : List ℕ → Memories → Told PolicyAnswer Memorie
 policy-step t M =
     text-concludes (set-places M) (rel-places M) (pick (store? M) (text-verdict t (fields M)) (refuses (Store NotStore))) (decode M) M
     (λ S. encode (fields M) S M)
-
--- 01: "A policy runs its text's operations, operands first, left before right"
-unfoldable pub plain-policy-step : ℕ → ℕ → List ℕ → Plain → Told PolicyAnswer Plain
-plain-policy-step m n t P = text-concludes m n (text-verdict t (P .width)) (P .lists) P (plain-store (P .width))

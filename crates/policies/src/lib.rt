@@ -4,15 +4,12 @@ ghost use mathlib.Core.Bool.{true};
 ghost use lib.ListN.{length, replicate};
 ghost use Rattle.nodes.specs.Store.{rel};
 ghost use Rattle.judging.specs.Memory.{memories, fields};
-ghost use Rattle.store.specs.Checking.{Accepted};
-ghost use Rattle.store.specs.Outcome.{told};
+ghost use Rattle.outcomes.specs.Checking.{Accepted};
+ghost use Rattle.outcomes.specs.Outcome.{told};
 ghost use Rattle.texts.specs.Reading.{reading};
 ghost use Rattle.texts.specs.declared.Reading.the-variants.{Policy};
 ghost use Rattle.policies.specs.Answers.{fault-number};
 ghost use Rattle.policies.specs.Outcome.{policy-step, short?};
-
-mod build;
-mod items;
 
 // What is wrong at a place in a text.
 pub enum Fault {
@@ -25,7 +22,7 @@ pub enum Fault {
 // Why a policy is declined: a fault and its offset in the text, or the store's own refusal.
 pub enum PolicyRefusal {
     At(Fault, usize),
-    Store(store::Refusal),
+    Store(outcomes::Refusal),
 }
 
 // What a policy call answers.
@@ -60,12 +57,12 @@ fn built(relations: &mut [u32], sets: &[u32], work: &mut [u32], text: &[u8]) -> 
         n: n,
         h: 0,
     };
-    let r = crate::build::build(text, &mut relations[2..], work, s, memory::narrow(k));
+    let r = building::build(text, &mut relations[2..], work, s, memory::narrow(k));
     judging::commit::commit(relations, 2, 4, n, r);
     if r.ok {
         return PolicyAnswer::Handle(r.h);
     }
-    PolicyAnswer::Declined(PolicyRefusal::Store(store::Refusal::UsedUp))
+    PolicyAnswer::Declined(PolicyRefusal::Store(outcomes::Refusal::UsedUp))
 }
 
 // Reads a text for a store, and builds it.
@@ -75,7 +72,7 @@ fn judged(relations: &mut [u32], sets: &[u32], work: &mut [u32], text: &[u8]) ->
         ≡ policy-step (now (text .entry)) (memories (now (relations .entry)) (now (sets .entry))) ⌝ }
 {
     if text.len() > 4096 {
-        return PolicyAnswer::Declined(PolicyRefusal::Store(store::Refusal::TooLong));
+        return PolicyAnswer::Declined(PolicyRefusal::Store(outcomes::Refusal::TooLong));
     }
     let read = texts::read(text, relations[0]);
     match read {
@@ -101,7 +98,7 @@ pub fn policy(relations: &mut [u32], sets: &[u32], work: &mut [u32], text: &[u8]
 {
     if !judging::is_store(relations, sets, work, false) {
         nodes::clear(work);
-        return PolicyAnswer::Declined(PolicyRefusal::Store(store::Refusal::NotStore));
+        return PolicyAnswer::Declined(PolicyRefusal::Store(outcomes::Refusal::NotStore));
     }
     let r = judged(relations, sets, work, text);
     nodes::clear(work);

@@ -2,5 +2,5 @@ pub mod Nodes
 pub mod Opened
 pub mod Ways
 pub mod Children
-pub mod Matrices
+pub mod Copied
 pub mod Naming

@@ -8,7 +8,7 @@ use Rattle.nodes.specs.Operations.{constant, identity-at-depth, is-zero, comple
 use Rattle.nodes.specs.Operations.{xor-tests, xor-op, xor, difference-op, difference}
 use Rattle.nodes.specs.Programs.{isEmpty, same, less, has, Prog, ret, ask, mk, _>>=_}
 use Rattle.nodes.specs.Recursion.{node1, op1, node2, op2}
-use Rattle.nodes.specs.Relations.{sequence-op, sequence, star-op, star, flip-op, flip}
+use Rattle.nodes.specs.Relations.{flip-op, flip}
 use Rattle.nodes.specs.Store.{rel}
 use Rattle.memory.specs.Arena.{Stands}
 use Rattle.memory.specs.Memo.{memo-program}
@@ -29,11 +29,11 @@ identity-step (suc l) h = let e : l ≡ suc l - 1 = omega arith in
 
 -- OPERATIONS on two relations, and the numbers of all
 module _ (l a b : ℕ) where
-  pub union-is : union rel l a b ≡ ask (same a b) (ret a) (lattice-tests l a b b a (node2 (union-op rel) l))
+  pub union-is : union rel l a b ≡ ask (same a b) (ret a) (ask (has isEmpty rel l a) (ret b) (lattice-tests l a b b a (node2 (union-op rel) l)))
   unfolding union op2
   union-is = refl
 
-  pub intersect-is : intersect rel l a b ≡ ask (same a b) (ret a) (lattice-tests l a b a b (node2 intersect-op l))
+  pub intersect-is : intersect rel l a b ≡ ask (same a b) (ret a) (ask (has isEmpty rel l a) (ret a) (lattice-tests l a b a b (node2 intersect-op l)))
   unfolding intersect op2
   intersect-is = refl
 
@@ -44,10 +44,6 @@ module _ (l a b : ℕ) where
   pub difference-is : difference rel l a b ≡ ask (same a b) (constant rel 0 l) (difference-tests l a b (node2 difference-op l))
   unfolding difference op2
   difference-is = refl
-
-  pub sequence-is : sequence l a b ≡ sequence-op .short l a b (node2 sequence-op l)
-  unfolding sequence op2
-  sequence-is = refl
 
   pub union-memo : node2 (union-op rel) l a b ≡ memo-program 4 l a b
   unfolding memo-program
@@ -65,22 +61,22 @@ module _ (l a b : ℕ) where
   unfolding memo-program
   difference-memo = refl
 
-  pub sequence-memo : node2 sequence-op l a b ≡ memo-program 9 l a b
-  unfolding memo-program
-  sequence-memo = refl
-
   -- the memo's second operand says nothing of an operation on one
   pub complement-memo : node1 complement-op l a ≡ memo-program 8 l a b
   unfolding memo-program
   complement-memo = refl
 
-  pub star-memo : node1 star-op l a ≡ memo-program 10 l a b
-  unfolding memo-program
-  star-memo = refl
-
   pub flip-memo : node1 flip-op l a ≡ memo-program 11 l a b
   unfolding memo-program
   flip-memo = refl
+
+  pub constant-memo : constant rel a l ≡ memo-program 21 l a b
+  unfolding memo-program
+  constant-memo = refl
+
+  pub identity-memo : identity-at-depth l ≡ memo-program 22 l a b
+  unfolding memo-program
+  identity-memo = refl
 
 -- the test on equal operands answers, or not
 module _ {p q q′ : Prog} {a b : ℕ} {m w : List ℕ} (e : p ≡ ask (same a b) q q′) where
@@ -98,10 +94,6 @@ complement-is l a = refl
 pub is-zero-is : (l a : ℕ) → is-zero rel l a ≡ ask (has isEmpty rel l a) (ret 1) (ret 0)
 unfolding is-zero
 is-zero-is l a = refl
-
-pub star-is : (l a : ℕ) → star l a ≡ star-op .short l a (node1 star-op l a)
-unfolding star op1
-star-is l a = refl
 
 pub flip-is : (l a : ℕ) → flip l a ≡ ask (less a 2) (ret a) (node1 flip-op l a)
 unfolding flip op1

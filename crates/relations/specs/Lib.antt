@@ -1,3 +1,2 @@
 pub mod Ways
-pub mod Products
 pub mod Fields

@@ -27,14 +27,13 @@ abbrev pub way-of : Found → Way
 way-of (found.Answer h) = Answer h
 way-of (found.Operands x y) = Operands x y
 
--- the tests of `union` and `intersect`: x where a is empty or b full, y where b is empty or a full
+-- the tests of `union` and `intersect` where a is not empty: x where b is full, y where b is empty or a full
 abbrev pub lattice-tests : ℕ → ℕ → ℕ → ℕ → ℕ → (ℕ → ℕ → Prog) → Prog
 lattice-tests l a b x y node =
-    ask (has isEmpty rel l a) (ret x)
-    (ask (has isUniversal rel l b) (ret x)
+    ask (has isUniversal rel l b) (ret x)
     (ask (has isEmpty rel l b) (ret y)
     (ask (has isUniversal rel l a) (ret y)
-    (ask (less b a) (node b a) (node a b)))))
+    (ask (less b a) (node b a) (node a b))))
 
 -- the tests of `difference` after that on equal operands
 abbrev pub difference-tests : ℕ → ℕ → ℕ → (ℕ → ℕ → Prog) → Prog

@@ -5,12 +5,12 @@ ghost use Prim.Native.Nat.{_≤_};
 ghost use Rattle.nodes.specs.Store.{rel};
 ghost use Rattle.nodes.specs.Programs.{Prog};
 ghost use Rattle.nodes.specs.Operations.{constant, identity-at-depth, is-zero, complement, union, intersect, xor, difference};
+ghost use Rattle.nodes.specs.Relations.{flip};
 ghost use Rattle.memory.specs.Arena.{Performs, Looks};
 ghost use Rattle.memory.specs.Noting.{LevelIs};
 
 pub mod fields;
-pub mod products;
-mod shortcuts;
+pub mod shortcuts;
 
 // The operations' numbers in the memo.
 const UNION: u32 = 4;
@@ -23,6 +23,12 @@ const DIFFERENCE: u32 = 7;
 
 const COMPLEMENT: u32 = 8;
 
+const FLIP: u32 = 11;
+
+const CONSTANT: u32 = 21;
+
+const IDENTITY: u32 = 22;
+
 // A node: four children, the first digit for the input's field and the second for the output's.
 pub struct SPPnode {
     pub x00: u32,
@@ -32,7 +38,7 @@ pub struct SPPnode {
 }
 
 // What shortcuts know where another operation may answer: the answer, its operand, or on which operands the operation goes on.
-enum Way {
+pub enum Way {
     Answer(u32),
     Other(u32),
     Operands(u32, u32),
@@ -67,8 +73,7 @@ pub fn mk(
     ensures { λ r. ⌜ Performs rel (Prog.mk rel (x00 ∷ x01 ∷ x10 ∷ x11 ∷ [])) s
         (now (nodes .entry)) (now (nodes .exit)) (now (work .entry)) (now (work .exit)) r ⌝ }
 {
-    let x = [x00, x01, x10, x11];
-    let r = memory::place::join(nodes, work, s, &x);
+    let r = memory::four::join(nodes, work, s, x00, x01, x10, x11);
     memory::Arena {
         ok: r.ok,
         n: r.n,
@@ -93,11 +98,19 @@ fn constant(
 ) -> memory::Arena
     ensures { λ r. ⌜ Performs rel (constant rel c level) s (now (nodes .entry)) (now (nodes .exit)) (now (work .entry)) (now (work .exit)) r ⌝ }
 {
+    if !s.ok {
+        return s;
+    }
     if level == 0 {
         return memory::place::give(s, c);
     }
+    let found = memory::memo::recall(work, CONSTANT, level, c, 0);
+    if let memory::Found::Answer(h) = found {
+        return memory::place::give(s, h);
+    }
     let z = constant(nodes, work, s, level - 1, c);
-    mk(nodes, work, z, z.h, z.h, z.h, z.h)
+    let r = mk(nodes, work, z, z.h, z.h, z.h, z.h);
+    memory::memo::remember(work, r, CONSTANT, level, c, 0)
 }
 
 pub fn zero_at_depth(
@@ -120,12 +133,20 @@ pub fn one_at_depth(
 ) -> memory::Arena
     ensures { λ r. ⌜ Performs rel (identity-at-depth level) s (now (nodes .entry)) (now (nodes .exit)) (now (work .entry)) (now (work .exit)) r ⌝ }
 {
+    if !s.ok {
+        return s;
+    }
     if level == 0 {
         return memory::place::give(s, 1);
     }
+    let found = memory::memo::recall(work, IDENTITY, level, 0, 0);
+    if let memory::Found::Answer(h) = found {
+        return memory::place::give(s, h);
+    }
     let one = one_at_depth(nodes, work, s, level - 1);
     let zero = zero_at_depth(nodes, work, one, level - 1);
-    mk(nodes, work, zero, one.h, zero.h, zero.h, one.h)
+    let r = mk(nodes, work, zero, one.h, zero.h, zero.h, one.h);
+    memory::memo::remember(work, r, IDENTITY, level, 0, 0)
 }
 
 pub fn top_at_depth(
@@ -149,23 +170,30 @@ pub fn union(
 ) -> memory::Arena
     ensures { λ r. ⌜ Performs rel (union rel level a b) s (now (nodes .entry)) (now (nodes .exit)) (now (work .entry)) (now (work .exit)) r ⌝ }
 {
-    if !s.ok {
-        return s;
+    // a copy, made field by field: what is read below was not just written in other parts (docs/DECISIONS.md, Speed)
+    let t = memory::place::give(s, s.h);
+    if !t.ok {
+        return t;
     }
     if a == b {
-        return memory::place::give(s, a);
+        return memory::place::give(t, a);
     }
-    let found = crate::shortcuts::lattice_tests(nodes, work, UNION, level, a, b, b, a);
+    let pa = memory::words::relation_properties(nodes, work, level, a);
+    if pa.empty {
+        return memory::place::give(t, b);
+    }
+    let pb = memory::words::relation_properties(nodes, work, level, b);
+    let found = crate::shortcuts::lattice_tests(work, UNION, level, pa, pb, a, b, b, a);
     match found {
-        memory::Found::Answer(h) => memory::place::give(s, h),
+        memory::Found::Answer(h) => memory::place::give(t, h),
         memory::Found::Operands(x, y) => {
             if level == 0 {
-                return s;
+                return t;
             }
             let p = get(nodes, x);
             let q = get(nodes, y);
             let below = level - 1;
-            let r00 = union(nodes, work, s, below, p.x00, q.x00);
+            let r00 = union(nodes, work, t, below, p.x00, q.x00);
             let r01 = union(nodes, work, r00, below, p.x01, q.x01);
             let r10 = union(nodes, work, r01, below, p.x10, q.x10);
             let r11 = union(nodes, work, r10, below, p.x11, q.x11);
@@ -191,7 +219,12 @@ pub fn intersect(
     if a == b {
         return memory::place::give(s, a);
     }
-    let found = crate::shortcuts::lattice_tests(nodes, work, INTERSECT, level, a, b, a, b);
+    let pa = memory::words::relation_properties(nodes, work, level, a);
+    if pa.empty {
+        return memory::place::give(s, a);
+    }
+    let pb = memory::words::relation_properties(nodes, work, level, b);
+    let found = crate::shortcuts::lattice_tests(work, INTERSECT, level, pa, pb, a, b, a, b);
     match found {
         memory::Found::Answer(h) => memory::place::give(s, h),
         memory::Found::Operands(x, y) => {
@@ -324,9 +357,41 @@ pub fn is_zero(nodes: &[u32], work: &[u32], s: memory::Arena, level: u8, a: u32)
     if !s.ok {
         return s;
     }
-    let p = memory::words::properties(nodes, work, 4, level, a);
+    let p = memory::words::relation_properties(nodes, work, level, a);
     if p.empty {
         return memory::place::give(s, 1);
     }
     memory::place::give(s, 0)
+}
+
+pub fn flip(
+    nodes: &mut [u32],
+    work: &mut [u32],
+    s: memory::Arena,
+    level: u8,
+    a: u32,
+) -> memory::Arena
+    ensures { λ r. ⌜ Performs rel (flip level a) s (now (nodes .entry)) (now (nodes .exit)) (now (work .entry)) (now (work .exit)) r ⌝ }
+{
+    if !s.ok {
+        return s;
+    }
+    if a < 2 {
+        return memory::place::give(s, a);
+    }
+    let found = memory::memo::recall(work, FLIP, level, a, 0);
+    if let memory::Found::Answer(h) = found {
+        return memory::place::give(s, h);
+    }
+    if level == 0 {
+        return s;
+    }
+    let p = get(nodes, a);
+    let below = level - 1;
+    let f00 = flip(nodes, work, s, below, p.x00);
+    let f01 = flip(nodes, work, f00, below, p.x01);
+    let f10 = flip(nodes, work, f01, below, p.x10);
+    let f11 = flip(nodes, work, f10, below, p.x11);
+    let r = mk(nodes, work, f11, f00.h, f10.h, f01.h, f11.h);
+    memory::memo::remember(work, r, FLIP, level, a, 0)
 }

@@ -6,7 +6,7 @@ ghost use Rattle.nodes.specs.Store.{rel};
 ghost use Rattle.nodes.specs.Programs.{Prog, less, ask};
 ghost use Rattle.nodes.specs.Recursion.{node2};
 ghost use Rattle.nodes.specs.Operations.{complement, xor-op, xor-tests, difference-op};
-ghost use Rattle.memory.specs.Arena.{Answers};
+ghost use Rattle.memory.specs.Arena.{Answers, Tells};
 ghost use Rattle.memory.specs.Memo.{memo-program};
 ghost use Rattle.relations.specs.Ways.{Goes, way-of, lattice-tests, difference-tests};
 
@@ -22,26 +22,23 @@ pub(crate) fn ordered(work: &[u32], op: u32, level: u8, a: u32, b: u32) -> memor
     memory::memo::recall(work, op, level, a, b)
 }
 
-// What the properties of two relations, or the memo, know of their union or intersection: x where a is empty or b full, y where b is empty or a full.
+// What the properties of a, which is not empty, and of b, or the memo, know of their union or intersection: x where b is full, y where b is empty or a full.
 pub(crate) fn lattice_tests(
-    nodes: &[u32],
     work: &[u32],
     op: u32,
     level: u8,
+    pa: memory::Properties,
+    pb: memory::Properties,
     a: u32,
     b: u32,
     x: u32,
     y: u32,
 ) -> memory::Found
     requires { ⌜ (0 < op) × (op < 16777216) ⌝ }
-    ensures { λ r. ⌜ ((node : ℕ → ℕ → Prog) → ((i j : ℕ) → node i j ≡ memo-program op level i j)
-        → Answers rel (lattice-tests level a b x y node) node (now (nodes .entry)) (now (work .entry)) r) ⌝ }
+    ensures { λ r. ⌜ ((node : ℕ → ℕ → Prog) (m : List ℕ) → ((i j : ℕ) → node i j ≡ memo-program op level i j)
+        → Tells rel m (now (work .entry)) level a pa → Tells rel m (now (work .entry)) level b pb
+        → Answers rel (lattice-tests level a b x y node) node m (now (work .entry)) r) ⌝ }
 {
-    let pa = memory::words::properties(nodes, work, 4, level, a);
-    let pb = memory::words::properties(nodes, work, 4, level, b);
-    if pa.empty {
-        return memory::Found::Answer(x);
-    }
     if pb.universal {
         return memory::Found::Answer(x);
     }
@@ -55,7 +52,7 @@ pub(crate) fn lattice_tests(
 }
 
 // What was found, where no other operation answers.
-pub(crate) fn way_of(found: memory::Found) -> crate::Way
+pub fn way_of(found: memory::Found) -> crate::Way
     ensures { λ r. ⌜ r ≡ way-of found ⌝ }
 {
     match found {
@@ -69,11 +66,11 @@ pub(crate) fn xor_tests(nodes: &[u32], work: &[u32], level: u8, a: u32, b: u32) 
     ensures { λ r. ⌜ Goes (xor-tests rel level a b (node2 (xor-op rel) level)) (complement rel level) (node2 (xor-op rel) level)
         (now (nodes .entry)) (now (work .entry)) r ⌝ }
 {
-    let pa = memory::words::properties(nodes, work, 4, level, a);
-    let pb = memory::words::properties(nodes, work, 4, level, b);
+    let pa = memory::words::relation_properties(nodes, work, level, a);
     if pa.empty {
         return crate::Way::Answer(b);
     }
+    let pb = memory::words::relation_properties(nodes, work, level, b);
     if pb.empty {
         return crate::Way::Answer(a);
     }
@@ -91,11 +88,11 @@ pub(crate) fn difference_tests(nodes: &[u32], work: &[u32], level: u8, a: u32, b
     ensures { λ r. ⌜ Goes (difference-tests level a b (node2 difference-op level)) (complement rel level) (node2 difference-op level)
         (now (nodes .entry)) (now (work .entry)) r ⌝ }
 {
-    let pa = memory::words::properties(nodes, work, 4, level, a);
-    let pb = memory::words::properties(nodes, work, 4, level, b);
+    let pa = memory::words::relation_properties(nodes, work, level, a);
     if pa.empty {
         return crate::Way::Answer(a);
     }
+    let pb = memory::words::relation_properties(nodes, work, level, b);
     if pb.empty {
         return crate::Way::Answer(a);
     }

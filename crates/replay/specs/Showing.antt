@@ -3,9 +3,9 @@ use mathlib.Core.Path.{_≡_}
 use mathlib.Core.List.{List, [], _∷_}
 use Prim.Native.Nat.{ℕ, _≤_}
 use lib.ListN.{take}
-use Rattle.store.specs.Answers.{number, values}
-use Rattle.store.specs.declared.Answer.{Answer}
-use Rattle.store.specs.declared.Answer.the-variants.{Handle, Truth, SetNode, RelationNode, Declined}
+use Rattle.outcomes.specs.Answers.{number, values}
+use Rattle.outcomes.specs.declared.Answer.{Answer}
+use Rattle.outcomes.specs.declared.Answer.the-variants.{Handle, Truth, SetNode, RelationNode, Declined}
 use Rattle.replay.specs.declared.answers.Shown.{Shown}
 
 -- `h` a handle, `b` yes or no, `c` children, `r` a refusal

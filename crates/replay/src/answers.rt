@@ -10,34 +10,34 @@ pub struct Shown {
 }
 
 // The letter and the numbers of an answer.
-fn show(a: store::Answer) -> Shown
+fn show(a: outcomes::Answer) -> Shown
     ensures { λ r. ⌜ Shows a r ⌝ }
 {
     match a {
-        store::Answer::Handle(h) => Shown {
+        outcomes::Answer::Handle(h) => Shown {
             letter: b'h',
             count: 1,
             x: [h, 0, 0, 0],
         },
-        store::Answer::Truth(b) => Shown {
+        outcomes::Answer::Truth(b) => Shown {
             letter: b'b',
             count: 1,
             x: [if b { 1 } else { 0 }, 0, 0, 0],
         },
-        store::Answer::SetNode(x0, x1) => Shown {
+        outcomes::Answer::SetNode(x0, x1) => Shown {
             letter: b'c',
             count: 2,
             x: [x0, x1, 0, 0],
         },
-        store::Answer::RelationNode(x00, x01, x10, x11) => Shown {
+        outcomes::Answer::RelationNode(x00, x01, x10, x11) => Shown {
             letter: b'c',
             count: 4,
             x: [x00, x01, x10, x11],
         },
-        store::Answer::Declined(r) => Shown {
+        outcomes::Answer::Declined(r) => Shown {
             letter: b'r',
             count: 1,
-            x: [store::number_of(r), 0, 0, 0],
+            x: [outcomes::number_of(r), 0, 0, 0],
         },
     }
 }
@@ -56,7 +56,7 @@ fn counts(n: u32, m: u32) {
 }
 
 // The answer of a call on a store.
-pub fn write(a: store::Answer, n: u32, m: u32) {
+pub fn write(a: outcomes::Answer, n: u32, m: u32) {
     let s = show(a);
     let letter = [s.letter];
     let x = s.x;

@@ -17,7 +17,12 @@ pub enum Step {
 }
 
 // A call on the store; `new` is not among them.
-fn answer(relations: &mut [u32], sets: &mut [u32], work: &mut [u32], call: Call) -> store::Answer {
+fn answer(
+    relations: &mut [u32],
+    sets: &mut [u32],
+    work: &mut [u32],
+    call: Call,
+) -> outcomes::Answer {
     match call {
         Call::AddsSet(c) => store::set_calls::set_call(relations, sets, work, c),
         Call::ReadsSet(c) => store::set_reads::set_read(relations, sets, work, c),
@@ -26,8 +31,8 @@ fn answer(relations: &mut [u32], sets: &mut [u32], work: &mut [u32], call: Call)
         Call::AddsImage(c) => store::image_calls::image_call(relations, sets, work, c),
         Call::AddsFilter(c) => store::filter_calls::filter_call(relations, sets, work, c),
         Call::ReadsPath(c) => store::path_reads::path_read(relations, sets, work, c),
-        Call::New(_, _, _) => store::Answer::Declined(store::Refusal::NotStore),
-        Call::Nothing => store::Answer::Declined(store::Refusal::NotStore),
+        Call::New(_, _, _) => outcomes::Answer::Declined(outcomes::Refusal::NotStore),
+        Call::Nothing => outcomes::Answer::Declined(outcomes::Refusal::NotStore),
     }
 }
 
@@ -60,8 +65,8 @@ fn begin(
     if sl > sets.len() {
         return Step::End;
     }
-    let a = store::creation::new(&mut relations[..rl], &mut sets[..sl], work, k);
-    if let store::Answer::Declined(_) = a {
+    let a = new_store::new(&mut relations[..rl], &mut sets[..sl], work, k);
+    if let outcomes::Answer::Declined(_) = a {
         crate::answers::write(a, relations[1], sets[0]);
         return Step::On(lent);
     }

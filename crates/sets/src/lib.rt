@@ -130,7 +130,7 @@ pub fn is_universal(nodes: &[u32], work: &[u32], level: u8, sp: u32) -> bool
         → Words (now (work .entry)) (plain set B (now (nodes .entry)) n) → Held set (plain set B (now (nodes .entry)) n) level sp
         → holds (has isUniversal set level sp) (plain set B (now (nodes .entry)) n) ≡ r) ⌝ }
 {
-    let p = memory::words::properties(nodes, work, 2, level, sp);
+    let p = memory::words::set_properties(nodes, work, level, sp);
     p.universal
 }
 
@@ -139,11 +139,11 @@ fn union_tests(nodes: &[u32], work: &[u32], level: u8, a: u32, b: u32) -> memory
     ensures { λ r. ⌜ Answers set (union-tests set level a b (node2 (union-op set) level)) (node2 (union-op set) level)
         (now (nodes .entry)) (now (work .entry)) r ⌝ }
 {
-    let pa = memory::words::properties(nodes, work, 2, level, a);
+    let pa = memory::words::set_properties(nodes, work, level, a);
     if pa.empty {
         return memory::Found::Answer(b);
     }
-    let pb = memory::words::properties(nodes, work, 2, level, b);
+    let pb = memory::words::set_properties(nodes, work, level, b);
     if pb.universal {
         return memory::Found::Answer(b);
     }
@@ -242,11 +242,11 @@ fn xor_tests(nodes: &[u32], work: &[u32], level: u8, a: u32, b: u32) -> memory::
     ensures { λ r. ⌜ Answers set (xor-tests set level a b (node2 (xor-op set) level)) (node2 (xor-op set) level)
         (now (nodes .entry)) (now (work .entry)) r ⌝ }
 {
-    let pa = memory::words::properties(nodes, work, 2, level, a);
+    let pa = memory::words::set_properties(nodes, work, level, a);
     if pa.empty {
         return memory::Found::Answer(b);
     }
-    let pb = memory::words::properties(nodes, work, 2, level, b);
+    let pb = memory::words::set_properties(nodes, work, level, b);
     if pb.empty {
         return memory::Found::Answer(a);
     }
@@ -302,7 +302,7 @@ pub fn is_zero(nodes: &[u32], work: &[u32], s: memory::Arena, level: u8, a: u32)
     if !s.ok {
         return s;
     }
-    let p = memory::words::properties(nodes, work, 2, level, a);
+    let p = memory::words::set_properties(nodes, work, level, a);
     if p.empty {
         return memory::place::give(s, 1);
     }
@@ -317,11 +317,11 @@ fn intersects_tests(nodes: &[u32], work: &[u32], level: u8, a: u32, b: u32) -> m
     if a == memory::words::other(b) {
         return memory::Found::Answer(0);
     }
-    let pa = memory::words::properties(nodes, work, 2, level, a);
+    let pa = memory::words::set_properties(nodes, work, level, a);
     if pa.empty {
         return memory::Found::Answer(0);
     }
-    let pb = memory::words::properties(nodes, work, 2, level, b);
+    let pb = memory::words::set_properties(nodes, work, level, b);
     if pb.empty {
         return memory::Found::Answer(0);
     }

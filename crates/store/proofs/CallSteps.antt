@@ -12,20 +12,21 @@ use Rattle.nodes.specs.Safety.{Safe}
 use Rattle.nodes.specs.WellFormed.{WellFormed}
 use Rattle.memory.specs.Arena.{arena, Condition, PerformsOn}
 use Rattle.memory.specs.declared.Arena.{Arena}
-use Rattle.store.specs.Calls.{Call, on-store, step}
-use Rattle.store.specs.Checking.{Goes, AnsweredOn, Accepted}
-use Rattle.store.specs.Finishing.{Finished}
+use Rattle.store.specs.Calls.{Call, step}
+use Rattle.outcomes.specs.OnMemories.{on-store}
+use Rattle.outcomes.specs.Checking.{Goes, AnsweredOn, Accepted}
+use Rattle.outcomes.specs.Finishing.{Finished}
 use Rattle.judging.specs.Judging.{StoreJudged}
 use Rattle.judging.specs.Memory.{Memories, memory, head, count, fields, decode}
-use Rattle.store.specs.Outcome.{Verdict, gives, runs, told}
-use Rattle.store.specs.declared.Answer.{Answer}
-use Rattle.store.specs.declared.Answer.the-variants.{Declined}
-use Rattle.store.specs.declared.Check.{Check}
-use Rattle.store.specs.declared.Check.the-variants.{Level, No}
-use Rattle.store.specs.declared.Refusal.{Refusal}
-use Rattle.store.specs.declared.Refusal.the-variants.{NotStore}
-use Rattle.store.proofs.Outcomes.{with-memory, not-store, given}
-use Rattle.store.proofs.Running.{part-of, check-no, check-goes, check-low, within-memory, ran-here, ready-here}
+use Rattle.outcomes.specs.Outcome.{Verdict, gives, runs, told}
+use Rattle.outcomes.specs.declared.Answer.{Answer}
+use Rattle.outcomes.specs.declared.Answer.the-variants.{Declined}
+use Rattle.outcomes.specs.declared.Check.{Check}
+use Rattle.outcomes.specs.declared.Check.the-variants.{Level, No}
+use Rattle.outcomes.specs.declared.Refusal.{Refusal}
+use Rattle.outcomes.specs.declared.Refusal.the-variants.{NotStore}
+use Rattle.outcomes.proofs.Outcomes.{with-memory, not-store, given}
+use Rattle.outcomes.proofs.Running.{part-of, check-no, check-goes, check-low, within-memory, ran-here, ready-here}
 
 -- a call that may add nodes of kind K: what it declines, and the program that it runs at its operands' level
 pub record Adding (K : Kind) (c : Call) : Type 0 where

@@ -11,11 +11,11 @@ use Rattle.nodes.specs.Programs.{Prog, panic}
 use Rattle.nodes.specs.WellFormed.{Held, WellFormed, is-held, level-of}
 use Rattle.nodes.proofs.Bools.{eqb-iff}
 use Rattle.nodes.proofs.Rules.{Does}
-use Rattle.store.specs.Outcome.{Verdict, declines, gives, runs, provided, of-one, of-pair, of-two, of-four, of-path}
-use Rattle.store.specs.declared.Answer.{Answer}
-use Rattle.store.specs.declared.Answer.the-variants.{Handle, Truth, SetNode, RelationNode, Declined}
-use Rattle.store.specs.declared.Refusal.{Refusal}
-use Rattle.store.proofs.Handles.{held-here, all-four}
+use Rattle.outcomes.specs.Outcome.{Verdict, declines, gives, runs, provided, of-one, of-pair, of-two, of-four, of-path}
+use Rattle.outcomes.specs.declared.Answer.{Answer}
+use Rattle.outcomes.specs.declared.Answer.the-variants.{Handle, Truth, SetNode, RelationNode, Declined}
+use Rattle.outcomes.specs.declared.Refusal.{Refusal}
+use Rattle.outcomes.proofs.Handles.{held-here, all-four}
 
 -- VERDICTS that are no refusal
 abbrev pub Goes : Verdict → Type 0

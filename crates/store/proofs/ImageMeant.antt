@@ -13,8 +13,8 @@ use Rattle.nodes.proofs.YesNo.{has-image-does, has-path-does}
 use Rattle.store.specs.ImageCalls.{image-verdict, filter-verdict, path-declines}
 use Rattle.store.specs.ImageChecking.{PathSafe}
 use Rattle.store.specs.ImageMeanings.{image-meaning, filter-meaning}
-use Rattle.store.specs.Outcome.{Verdict, gives, runs, of-pair}
-use Rattle.store.specs.declared.Answer.the-variants.{Handle}
+use Rattle.outcomes.specs.Outcome.{Verdict, gives, runs, of-pair}
+use Rattle.outcomes.specs.declared.Answer.the-variants.{Handle}
 use Rattle.store.specs.declared.image_calls.ImageCall.{ImageCall}
 use Rattle.store.specs.declared.image_calls.ImageCall.the-variants.{Fwd, Bwd, Push, Pull}
 use Rattle.store.specs.declared.filter_calls.FilterCall.{FilterCall}

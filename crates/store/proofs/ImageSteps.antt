@@ -1,7 +1,8 @@
 -- The calls between relations and sets as calls that add sets, relations, or nothing: each is safe by its meaning.
 use mathlib.Core.Path.{_≡_, refl}
 use Rattle.nodes.specs.Store.{set, rel}
-use Rattle.store.specs.Calls.{image-call, filter-call, path-read, on-store, step}
+use Rattle.store.specs.Calls.{image-call, filter-call, path-read, step}
+use Rattle.outcomes.specs.OnMemories.{on-store}
 use Rattle.store.specs.ImageCalls.{image-declines, image-program, image-verdict, filter-declines, filter-program, filter-verdict}
 use Rattle.store.specs.ImageCalls.{path-declines, path-answer, path-verdict}
 use Rattle.store.specs.ImageChecking.{PathSafe}

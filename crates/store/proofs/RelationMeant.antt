@@ -16,10 +16,10 @@ use Rattle.nodes.proofs.Sequence.{sequence-does}
 use Rattle.nodes.proofs.Star.{identity-does, star-does, flip-does, naive-forward-does, backward-does}
 use Rattle.nodes.proofs.YesNo.{is-zero-does}
 use Rattle.store.specs.Meanings.{relation-meaning}
-use Rattle.store.specs.Outcome.{Verdict, gives, runs, of-one, of-two}
+use Rattle.outcomes.specs.Outcome.{Verdict, gives, runs, of-one, of-two}
 use Rattle.store.specs.RelationCalls.{relation-verdict, relation-read-declines}
 use Rattle.store.specs.RelationChecking.{RelationFieldFits, RelationReadSafe}
-use Rattle.store.specs.declared.Answer.the-variants.{Handle}
+use Rattle.outcomes.specs.declared.Answer.the-variants.{Handle}
 use Rattle.store.specs.declared.relation_calls.RelationCall.{RelationCall}
 use Rattle.store.specs.declared.relation_calls.RelationCall.the-variants as R
 use Rattle.store.specs.declared.relation_reads.RelationRead.{RelationRead}

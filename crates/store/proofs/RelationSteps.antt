@@ -1,7 +1,8 @@
 -- The calls on relations as calls that add relations, or nothing: each is safe by its meaning.
 use mathlib.Core.Path.{_≡_, refl}
 use Rattle.nodes.specs.Store.{rel}
-use Rattle.store.specs.Calls.{relation-call, relation-read, on-store, step}
+use Rattle.store.specs.Calls.{relation-call, relation-read, step}
+use Rattle.outcomes.specs.OnMemories.{on-store}
 use Rattle.judging.specs.Memory.{Memories}
 use Rattle.store.specs.RelationCalls.{relation-declines, relation-program, relation-verdict, relation-read-declines, relation-read-answer}
 use Rattle.store.specs.RelationCalls.{relation-read-verdict}

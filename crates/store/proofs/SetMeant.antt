@@ -14,10 +14,10 @@ use Rattle.nodes.proofs.Rules.{Does, held-within}
 use Rattle.nodes.proofs.SetFields.{mk-set, ifelse-does, set-test-does}
 use Rattle.nodes.proofs.YesNo.{is-zero-does, intersects-does}
 use Rattle.store.specs.Meanings.{set-meaning}
-use Rattle.store.specs.Outcome.{Verdict, gives, runs, of-one, of-two}
+use Rattle.outcomes.specs.Outcome.{Verdict, gives, runs, of-one, of-two}
 use Rattle.store.specs.SetCalls.{set-verdict, set-read-declines}
 use Rattle.store.specs.SetChecking.{SetFieldFits, SetReadSafe}
-use Rattle.store.specs.declared.Answer.the-variants.{Handle}
+use Rattle.outcomes.specs.declared.Answer.the-variants.{Handle}
 use Rattle.store.specs.declared.set_calls.SetCall.{SetCall}
 use Rattle.store.specs.declared.set_calls.SetCall.the-variants.{Mk, Zero, One, Union, Intersect, Xor, Difference, Test, Ifelse}
 use Rattle.store.specs.declared.set_reads.SetRead.{SetRead}

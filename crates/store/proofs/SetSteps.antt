@@ -1,7 +1,8 @@
 -- The calls on sets as calls that add sets, or nothing: each is safe by its meaning.
 use mathlib.Core.Path.{_≡_, refl}
 use Rattle.nodes.specs.Store.{set}
-use Rattle.store.specs.Calls.{set-call, set-read, on-store, step}
+use Rattle.store.specs.Calls.{set-call, set-read, step}
+use Rattle.outcomes.specs.OnMemories.{on-store}
 use Rattle.judging.specs.Memory.{Memories}
 use Rattle.store.specs.SetCalls.{set-declines, set-program, set-verdict, set-read-declines, set-read-answer, set-read-verdict}
 use Rattle.store.specs.SetChecking.{SetReadSafe}

@@ -3,8 +3,8 @@ use Prim.Native.Nat.{ℕ}
 use Rattle.nodes.specs.Store.{set, rel, Store}
 use Rattle.nodes.specs.Programs.{Prog}
 use Rattle.nodes.specs.Images.{fwd, bwd, push, pull, diagonal, ifwd, ibwd, has-image, has-path}
-use Rattle.store.specs.Outcome.{Verdict, gives, runs, of-one, of-pair, of-path, yes-no}
-use Rattle.store.specs.declared.Answer.{Answer}
+use Rattle.outcomes.specs.Outcome.{Verdict, gives, runs, of-one, of-pair, of-path, yes-no}
+use Rattle.outcomes.specs.declared.Answer.{Answer}
 use Rattle.store.specs.declared.image_calls.ImageCall.{ImageCall}
 use Rattle.store.specs.declared.image_calls.ImageCall.the-variants.{Fwd, Bwd, Push, Pull}
 use Rattle.store.specs.declared.filter_calls.FilterCall.{FilterCall}

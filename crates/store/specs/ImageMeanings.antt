@@ -1,17 +1,13 @@
--- What the calls between relations and sets give, in terms of their operands' packets in the store S before: document 01, "The operations".
+-- What the handle that a call between relations and sets gives means, by its operands' packets in the store S before: document 01, "The operations".
 use Prim.Native.Nat.{ℕ}
 use Rattle.nodes.specs.Store.{set, rel, Store}
 use Rattle.nodes.specs.Packets.{contains, relates}
 use Rattle.nodes.specs.WellFormed.{level-of}
-use Rattle.nodes.specs.Meaning.{Den, Relates, Some, Filter, Range, Domain, Image, Preimage}
-use Rattle.store.specs.ReadMeanings.{yes-where}
-use Rattle.store.specs.declared.Answer.{Answer}
+use Rattle.nodes.specs.Meaning.{Den, Relates, Filter, Range, Domain, Image, Preimage}
 use Rattle.store.specs.declared.image_calls.ImageCall.{ImageCall}
 use Rattle.store.specs.declared.image_calls.ImageCall.the-variants.{Fwd, Bwd, Push, Pull}
 use Rattle.store.specs.declared.filter_calls.FilterCall.{FilterCall}
 use Rattle.store.specs.declared.filter_calls.FilterCall.the-variants.{Diagonal, Ifwd, Ibwd}
-use Rattle.store.specs.declared.path_reads.PathRead.{PathRead}
-use Rattle.store.specs.declared.path_reads.PathRead.the-variants.{HasImage, HasPath}
 
 -- 01: "`fwd` is the range, `bwd` the domain, `push` the image, `pull` the packets with some output in the set"
 unfoldable pub image-meaning : ℕ → ImageCall → Store → Store → ℕ → Type 0
@@ -25,9 +21,3 @@ unfoldable pub filter-meaning : ℕ → FilterCall → Store → Store → ℕ �
 filter-meaning k (Diagonal p) S = Relates (level-of k set S p) (Filter (contains S p))
 filter-meaning k (Ifwd p) S = Relates (level-of k set S p) (λ x y. contains S p y)
 filter-meaning k (Ibwd p) S = Relates (level-of k set S p) (λ x y. contains S p x)
-
--- whether a relation leads from a packet of a set, and to one of another
-unfoldable pub path-meaning : ℕ → PathRead → Store → Answer → Type 0
-path-meaning k (HasImage p a) S = (let l = level-of k rel S a in yes-where (Some l (λ x. Some l (λ y. contains S p x × relates S a x y))))
-path-meaning k (HasPath p a q) S =
-    (let l = level-of k rel S a in yes-where (Some l (λ x. Some l (λ y. contains S p x × relates S a x y × contains S q y))))

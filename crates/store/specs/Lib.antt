@@ -1,17 +1,9 @@
-pub mod Answers
-pub mod Outcome
 pub mod SetCalls
 pub mod RelationCalls
 pub mod ImageCalls
 pub mod Calls
 pub mod Meanings
-pub mod ReadMeanings
 pub mod ImageMeanings
-pub mod PlainStore
-pub mod Lists
-pub mod Checking
 pub mod SetChecking
 pub mod RelationChecking
 pub mod ImageChecking
-pub mod Finishing
-pub mod Creating

@@ -8,10 +8,10 @@ use Rattle.nodes.specs.Programs.{Prog, mk}
 use Rattle.nodes.specs.Recursion.{x00, x01, x10, x11}
 use Rattle.nodes.specs.Operations.{zero-at-depth, one-at-depth, top-at-depth, union, intersect, xor, difference, complement, is-zero, test, assign}
 use Rattle.nodes.specs.Relations.{sequence, star, flip, naive-forward, backward}
-use Rattle.store.specs.Outcome.{Verdict, gives, runs, provided, of-one, of-two, of-four, yes-no}
-use Rattle.store.specs.declared.Refusal.the-variants.{NoChildren, OutOfRange}
-use Rattle.store.specs.declared.Answer.{Answer}
-use Rattle.store.specs.declared.Answer.the-variants.{Truth, RelationNode}
+use Rattle.outcomes.specs.Outcome.{Verdict, gives, runs, provided, of-one, of-two, of-four, yes-no}
+use Rattle.outcomes.specs.declared.Refusal.the-variants.{NoChildren, OutOfRange}
+use Rattle.outcomes.specs.declared.Answer.{Answer}
+use Rattle.outcomes.specs.declared.Answer.the-variants.{Truth, RelationNode}
 use Rattle.store.specs.declared.relation_calls.RelationCall.{RelationCall}
 use Rattle.store.specs.declared.relation_calls.RelationCall.the-variants.{Mk, Zero, One, Top, Union, Intersect, Xor, Difference, Complement}
 use Rattle.store.specs.declared.relation_calls.RelationCall.the-variants.{Sequence, Star, Flip, Test, Assign, NaiveForward, Backward}

@@ -7,10 +7,10 @@ use Rattle.nodes.specs.Programs.{Prog, mk}
 use Rattle.nodes.specs.Recursion.{x0, x1}
 use Rattle.nodes.specs.Operations.{zero-at-depth, one-at-depth, union, intersect, xor, difference, is-zero, test}
 use Rattle.nodes.specs.Sets.{intersects, ifelse}
-use Rattle.store.specs.Outcome.{Verdict, gives, runs, provided, of-one, of-two, yes-no}
-use Rattle.store.specs.declared.Refusal.the-variants.{NoChildren, OutOfRange}
-use Rattle.store.specs.declared.Answer.{Answer}
-use Rattle.store.specs.declared.Answer.the-variants.{Handle, SetNode}
+use Rattle.outcomes.specs.Outcome.{Verdict, gives, runs, provided, of-one, of-two, yes-no}
+use Rattle.outcomes.specs.declared.Refusal.the-variants.{NoChildren, OutOfRange}
+use Rattle.outcomes.specs.declared.Answer.{Answer}
+use Rattle.outcomes.specs.declared.Answer.the-variants.{Handle, SetNode}
 use Rattle.store.specs.declared.set_calls.SetCall.{SetCall}
 use Rattle.store.specs.declared.set_calls.SetCall.the-variants.{Mk, Zero, One, Union, Intersect, Xor, Difference, Test, Ifelse}
 use Rattle.store.specs.declared.set_reads.SetRead.{SetRead}

@@ -5,10 +5,10 @@ ghost use lib.ListN.{length, replicate};
 ghost use Rattle.nodes.specs.Store.{set, rel};
 ghost use Rattle.memory.specs.Arena.{PerformsOn, Beside};
 ghost use Rattle.judging.specs.Memory.{memories};
-ghost use Rattle.store.specs.Outcome.{told};
+ghost use Rattle.outcomes.specs.Outcome.{told};
 ghost use Rattle.store.specs.Calls.{filter-call, step};
 ghost use Rattle.store.specs.ImageCalls.{filter-declines, filter-program};
-ghost use Rattle.store.specs.Checking.{Checks, Accepted};
+ghost use Rattle.outcomes.specs.Checking.{Checks, Accepted};
 
 // A call with its argument, a set, after spp.rs.
 pub enum FilterCall {
@@ -18,13 +18,13 @@ pub enum FilterCall {
 }
 
 // Whether a call may run on the first m sets.
-fn check(sets: &[u32], m: usize, k: u32, call: FilterCall) -> crate::Check
+fn check(sets: &[u32], m: usize, k: u32, call: FilterCall) -> outcomes::Check
     ensures { λ r. ⌜ Checks set (now (sets .entry)) m k (λ S v. filter-declines k call S v) r ⌝ }
 {
     match call {
-        FilterCall::Diagonal(p) => crate::operands::one(sets, 2, m, k, p),
-        FilterCall::Ifwd(p) => crate::operands::one(sets, 2, m, k, p),
-        FilterCall::Ibwd(p) => crate::operands::one(sets, 2, m, k, p),
+        FilterCall::Diagonal(p) => outcomes::operands::one(sets, 2, m, k, p),
+        FilterCall::Ifwd(p) => outcomes::operands::one(sets, 2, m, k, p),
+        FilterCall::Ibwd(p) => outcomes::operands::one(sets, 2, m, k, p),
     }
 }
 
@@ -48,7 +48,12 @@ fn perform(
 }
 
 // Checks a call on a store, and runs it.
-fn judged(relations: &mut [u32], sets: &[u32], work: &mut [u32], call: FilterCall) -> crate::Answer
+fn judged(
+    relations: &mut [u32],
+    sets: &[u32],
+    work: &mut [u32],
+    call: FilterCall,
+) -> outcomes::Answer
     requires { ⌜ Accepted rel (memories (now relations) (now sets)) (now work) ⌝ }
     ensures { λ r. ⌜ told r (memories (now (relations .exit)) (now (sets .entry)))
         ≡ step (filter-call call) (memories (now (relations .entry)) (now (sets .entry))) ⌝ }
@@ -58,8 +63,8 @@ fn judged(relations: &mut [u32], sets: &[u32], work: &mut [u32], call: FilterCal
     let m = memory::wide(sets[0]);
     let check = check(&sets[1..], m, k, call);
     match check {
-        crate::Check::No(r) => crate::Answer::Declined(r),
-        crate::Check::Level(l) => {
+        outcomes::Check::No(r) => outcomes::Answer::Declined(r),
+        outcomes::Check::Level(l) => {
             let s = memory::Arena {
                 ok: true,
                 n: n,
@@ -73,7 +78,7 @@ fn judged(relations: &mut [u32], sets: &[u32], work: &mut [u32], call: FilterCal
                 memory::narrow(l),
                 call,
             );
-            crate::finish::finish(relations, 2, 4, n, r)
+            outcomes::finish::finish(relations, 2, 4, n, r)
         }
     }
 }
@@ -84,14 +89,14 @@ pub fn filter_call(
     sets: &[u32],
     work: &mut [u32],
     call: FilterCall,
-) -> crate::Answer
+) -> outcomes::Answer
     ensures { λ r. ⌜ (told r (memories (now (relations .exit)) (now (sets .entry)))
         ≡ step (filter-call call) (memories (now (relations .entry)) (now (sets .entry))))
         × (now (work .exit) ≡ replicate (length (now (work .entry))) 0) ⌝ }
 {
     if !judging::is_store(relations, sets, work, false) {
         nodes::clear(work);
-        return crate::Answer::Declined(crate::Refusal::NotStore);
+        return outcomes::Answer::Declined(outcomes::Refusal::NotStore);
     }
     let r = judged(relations, sets, work, call);
     nodes::clear(work);

@@ -5,10 +5,10 @@ ghost use lib.ListN.{length, replicate};
 ghost use Rattle.nodes.specs.Store.{set};
 ghost use Rattle.memory.specs.Arena.{PerformsOn, Beside};
 ghost use Rattle.judging.specs.Memory.{memories};
-ghost use Rattle.store.specs.Outcome.{told};
+ghost use Rattle.outcomes.specs.Outcome.{told};
 ghost use Rattle.store.specs.Calls.{image-call, step};
 ghost use Rattle.store.specs.ImageCalls.{image-declines, image-program};
-ghost use Rattle.store.specs.Checking.{ChecksBoth, Accepted};
+ghost use Rattle.outcomes.specs.Checking.{ChecksBoth, Accepted};
 
 // A call with its arguments, after spp.rs: `fwd` and `bwd` of a relation, `push` of a set through a relation, `pull` of a relation and a set.
 pub enum ImageCall {
@@ -26,14 +26,14 @@ fn check(
     m: usize,
     k: u32,
     call: ImageCall,
-) -> crate::Check
+) -> outcomes::Check
     ensures { λ r. ⌜ ChecksBoth (now (relations .entry)) n (now (sets .entry)) m k (λ S v. image-declines k call S v) r ⌝ }
 {
     match call {
-        ImageCall::Fwd(a) => crate::operands::one(relations, 4, n, k, a),
-        ImageCall::Bwd(a) => crate::operands::one(relations, 4, n, k, a),
-        ImageCall::Push(p, a) => crate::operands::pair(relations, n, sets, m, k, a, p),
-        ImageCall::Pull(a, p) => crate::operands::pair(relations, n, sets, m, k, a, p),
+        ImageCall::Fwd(a) => outcomes::operands::one(relations, 4, n, k, a),
+        ImageCall::Bwd(a) => outcomes::operands::one(relations, 4, n, k, a),
+        ImageCall::Push(p, a) => outcomes::operands::pair(relations, n, sets, m, k, a, p),
+        ImageCall::Pull(a, p) => outcomes::operands::pair(relations, n, sets, m, k, a, p),
     }
 }
 
@@ -58,7 +58,12 @@ fn perform(
 }
 
 // Checks a call on a store, and runs it.
-fn judged(relations: &[u32], sets: &mut [u32], work: &mut [u32], call: ImageCall) -> crate::Answer
+fn judged(
+    relations: &[u32],
+    sets: &mut [u32],
+    work: &mut [u32],
+    call: ImageCall,
+) -> outcomes::Answer
     requires { ⌜ Accepted set (memories (now relations) (now sets)) (now work) ⌝ }
     ensures { λ r. ⌜ told r (memories (now (relations .entry)) (now (sets .exit)))
         ≡ step (image-call call) (memories (now (relations .entry)) (now (sets .entry))) ⌝ }
@@ -68,8 +73,8 @@ fn judged(relations: &[u32], sets: &mut [u32], work: &mut [u32], call: ImageCall
     let m = memory::wide(sets[0]);
     let check = check(&relations[2..], n, &sets[1..], m, k, call);
     match check {
-        crate::Check::No(r) => crate::Answer::Declined(r),
-        crate::Check::Level(l) => {
+        outcomes::Check::No(r) => outcomes::Answer::Declined(r),
+        outcomes::Check::Level(l) => {
             let s = memory::Arena {
                 ok: true,
                 n: m,
@@ -83,7 +88,7 @@ fn judged(relations: &[u32], sets: &mut [u32], work: &mut [u32], call: ImageCall
                 memory::narrow(l),
                 call,
             );
-            crate::finish::finish(sets, 1, 2, m, r)
+            outcomes::finish::finish(sets, 1, 2, m, r)
         }
     }
 }
@@ -94,14 +99,14 @@ pub fn image_call(
     sets: &mut [u32],
     work: &mut [u32],
     call: ImageCall,
-) -> crate::Answer
+) -> outcomes::Answer
     ensures { λ r. ⌜ (told r (memories (now (relations .entry)) (now (sets .exit)))
         ≡ step (image-call call) (memories (now (relations .entry)) (now (sets .entry))))
         × (now (work .exit) ≡ replicate (length (now (work .entry))) 0) ⌝ }
 {
     if !judging::is_store(relations, sets, work, true) {
         nodes::clear(work);
-        return crate::Answer::Declined(crate::Refusal::NotStore);
+        return outcomes::Answer::Declined(outcomes::Refusal::NotStore);
     }
     let r = judged(relations, sets, work, call);
     nodes::clear(work);

@@ -1,55 +1,8 @@
-// The public calls of a packet store on two lent memories.
-ghost use mathlib.Core.Path.{_≡_};
-ghost use Rattle.store.specs.Answers.{number};
-
-pub mod creation;
+// The public calls of a packet store on two lent memories, but for `new` and policies.
 pub mod filter_calls;
-mod finish;
 pub mod image_calls;
-mod operands;
 pub mod path_reads;
 pub mod relation_calls;
 pub mod relation_reads;
 pub mod set_calls;
 pub mod set_reads;
-
-// Why a call is declined. The last is of a policy's text alone.
-pub enum Refusal {
-    NotStore,
-    NotHeld,
-    LevelsDiffer,
-    NoChildren,
-    OutOfRange,
-    UsedUp,
-    TooLong,
-}
-
-// What a call answers.
-pub enum Answer {
-    Handle(u32),
-    Truth(bool),
-    SetNode(u32, u32),
-    RelationNode(u32, u32, u32, u32),
-    Declined(Refusal),
-}
-
-// Whether a call may go on: the level of its operands, or why not.
-pub enum Check {
-    Level(u32),
-    No(Refusal),
-}
-
-// The refusal's number.
-pub fn number_of(r: Refusal) -> u32
-    ensures { λ n. ⌜ n ≡ number r ⌝ }
-{
-    match r {
-        Refusal::NotStore => 1,
-        Refusal::NotHeld => 2,
-        Refusal::LevelsDiffer => 3,
-        Refusal::NoChildren => 4,
-        Refusal::OutOfRange => 5,
-        Refusal::UsedUp => 6,
-        Refusal::TooLong => 10,
-    }
-}

@@ -5,11 +5,11 @@ ghost use lib.ListN.{length, replicate};
 ghost use Rattle.nodes.specs.Store.{set};
 ghost use Rattle.memory.specs.Arena.{Beside};
 ghost use Rattle.judging.specs.Memory.{memories};
-ghost use Rattle.store.specs.Outcome.{told};
+ghost use Rattle.outcomes.specs.Outcome.{told};
 ghost use Rattle.store.specs.Calls.{path-read, step};
 ghost use Rattle.store.specs.ImageCalls.{path-declines, path-answer};
 ghost use Rattle.store.specs.ImageChecking.{PathSafe};
-ghost use Rattle.store.specs.Checking.{ChecksBoth, AnsweredOn, Accepted};
+ghost use Rattle.outcomes.specs.Checking.{ChecksBoth, AnsweredOn, Accepted};
 
 // A call with its arguments, after spp.rs: an input set and a relation, and for `has_path` an output set.
 pub enum PathRead {
@@ -25,12 +25,12 @@ fn check(
     m: usize,
     k: u32,
     call: PathRead,
-) -> crate::Check
+) -> outcomes::Check
     ensures { λ r. ⌜ ChecksBoth (now (relations .entry)) n (now (sets .entry)) m k (λ S v. path-declines k call S v) r ⌝ }
 {
     match call {
-        PathRead::HasImage(p, a) => crate::operands::pair(relations, n, sets, m, k, a, p),
-        PathRead::HasPath(p, a, q) => crate::operands::path(relations, n, sets, m, k, p, a, q),
+        PathRead::HasImage(p, a) => outcomes::operands::pair(relations, n, sets, m, k, a, p),
+        PathRead::HasPath(p, a, q) => outcomes::operands::path(relations, n, sets, m, k, p, a, q),
     }
 }
 
@@ -42,7 +42,7 @@ fn answer(
     m: usize,
     level: u8,
     call: PathRead,
-) -> crate::Answer
+) -> outcomes::Answer
     ensures { λ r. ⌜ ((j : ℕ) → AnsweredOn (Beside set (now (relations .entry)) j) set (now (sets .entry)) (now (work .entry)) m
         (λ S. PathSafe S level call) (λ S. path-answer S level call) r) ⌝ }
 {
@@ -53,18 +53,18 @@ fn answer(
     };
     match call {
         PathRead::HasImage(p, a) => {
-            let r = images::paths::has_image(relations, sets, work, s, level, p, a);
-            crate::Answer::Truth(r.h == 1)
+            let r = paths::has_image(relations, sets, work, s, level, p, a);
+            outcomes::Answer::Truth(r.h == 1)
         }
         PathRead::HasPath(p, a, q) => {
-            let r = images::paths::has_path(relations, sets, work, s, level, p, a, q);
-            crate::Answer::Truth(r.h == 1)
+            let r = paths::has_path(relations, sets, work, s, level, p, a, q);
+            outcomes::Answer::Truth(r.h == 1)
         }
     }
 }
 
 // Checks a call on a store, and answers it.
-fn judged(relations: &[u32], sets: &[u32], work: &mut [u32], call: PathRead) -> crate::Answer
+fn judged(relations: &[u32], sets: &[u32], work: &mut [u32], call: PathRead) -> outcomes::Answer
     requires { ⌜ Accepted set (memories (now relations) (now sets)) (now work) ⌝ }
     ensures { λ r. ⌜ told r (memories (now (relations .entry)) (now (sets .entry)))
         ≡ step (path-read call) (memories (now (relations .entry)) (now (sets .entry))) ⌝ }
@@ -74,8 +74,8 @@ fn judged(relations: &[u32], sets: &[u32], work: &mut [u32], call: PathRead) -> 
     let m = memory::wide(sets[0]);
     let check = check(&relations[2..], n, &sets[1..], m, k, call);
     match check {
-        crate::Check::No(r) => crate::Answer::Declined(r),
-        crate::Check::Level(l) => answer(
+        outcomes::Check::No(r) => outcomes::Answer::Declined(r),
+        outcomes::Check::Level(l) => answer(
             &relations[2..],
             &sets[1..],
             work,
@@ -87,14 +87,19 @@ fn judged(relations: &[u32], sets: &[u32], work: &mut [u32], call: PathRead) -> 
 }
 
 // A call on any numbers in both memories.
-pub fn path_read(relations: &[u32], sets: &[u32], work: &mut [u32], call: PathRead) -> crate::Answer
+pub fn path_read(
+    relations: &[u32],
+    sets: &[u32],
+    work: &mut [u32],
+    call: PathRead,
+) -> outcomes::Answer
     ensures { λ r. ⌜ (told r (memories (now (relations .entry)) (now (sets .entry)))
         ≡ step (path-read call) (memories (now (relations .entry)) (now (sets .entry))))
         × (now (work .exit) ≡ replicate (length (now (work .entry))) 0) ⌝ }
 {
     if !judging::is_store(relations, sets, work, true) {
         nodes::clear(work);
-        return crate::Answer::Declined(crate::Refusal::NotStore);
+        return outcomes::Answer::Declined(outcomes::Refusal::NotStore);
     }
     let r = judged(relations, sets, work, call);
     nodes::clear(work);

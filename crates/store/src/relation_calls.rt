@@ -4,10 +4,10 @@ ghost use lib.ListN.{length, replicate};
 ghost use Rattle.nodes.specs.Store.{rel};
 ghost use Rattle.memory.specs.Arena.{Performs};
 ghost use Rattle.judging.specs.Memory.{memories};
-ghost use Rattle.store.specs.Outcome.{told};
+ghost use Rattle.outcomes.specs.Outcome.{told};
 ghost use Rattle.store.specs.Calls.{relation-call, step};
 ghost use Rattle.store.specs.RelationCalls.{relation-declines, relation-program};
-ghost use Rattle.store.specs.Checking.{Checks, Accepted};
+ghost use Rattle.outcomes.specs.Checking.{Checks, Accepted};
 ghost use Rattle.store.specs.RelationChecking.{RelationFieldFits};
 
 // A call with its arguments, after spp.rs: handles, and for `test` and `assign` a field first; a value is 0 or 1.
@@ -31,26 +31,26 @@ pub enum RelationCall {
 }
 
 // Whether a call may run on the first n nodes.
-fn check(nodes: &[u32], n: usize, k: u32, call: RelationCall) -> crate::Check
+fn check(nodes: &[u32], n: usize, k: u32, call: RelationCall) -> outcomes::Check
     ensures { λ r. ⌜ Checks rel (now (nodes .entry)) n k (λ S v. relation-declines k call S v) r ⌝ }
 {
     match call {
-        RelationCall::Mk(a, b, c, d) => crate::operands::four(nodes, 4, n, k, a, b, c, d),
-        RelationCall::Zero => crate::Check::Level(k),
-        RelationCall::One => crate::Check::Level(k),
-        RelationCall::Top => crate::Check::Level(k),
-        RelationCall::Union(a, b) => crate::operands::two(nodes, 4, n, k, a, b),
-        RelationCall::Intersect(a, b) => crate::operands::two(nodes, 4, n, k, a, b),
-        RelationCall::Xor(a, b) => crate::operands::two(nodes, 4, n, k, a, b),
-        RelationCall::Difference(a, b) => crate::operands::two(nodes, 4, n, k, a, b),
-        RelationCall::Complement(a) => crate::operands::one(nodes, 4, n, k, a),
-        RelationCall::Sequence(a, b) => crate::operands::two(nodes, 4, n, k, a, b),
-        RelationCall::Star(a) => crate::operands::one(nodes, 4, n, k, a),
-        RelationCall::Flip(a) => crate::operands::one(nodes, 4, n, k, a),
-        RelationCall::Test(var, value) => crate::operands::field(k, var, value),
-        RelationCall::Assign(var, value) => crate::operands::field(k, var, value),
-        RelationCall::NaiveForward(a) => crate::operands::one(nodes, 4, n, k, a),
-        RelationCall::Backward(a) => crate::operands::one(nodes, 4, n, k, a),
+        RelationCall::Mk(a, b, c, d) => outcomes::operands::four(nodes, 4, n, k, a, b, c, d),
+        RelationCall::Zero => outcomes::Check::Level(k),
+        RelationCall::One => outcomes::Check::Level(k),
+        RelationCall::Top => outcomes::Check::Level(k),
+        RelationCall::Union(a, b) => outcomes::operands::two(nodes, 4, n, k, a, b),
+        RelationCall::Intersect(a, b) => outcomes::operands::two(nodes, 4, n, k, a, b),
+        RelationCall::Xor(a, b) => outcomes::operands::two(nodes, 4, n, k, a, b),
+        RelationCall::Difference(a, b) => outcomes::operands::two(nodes, 4, n, k, a, b),
+        RelationCall::Complement(a) => outcomes::operands::one(nodes, 4, n, k, a),
+        RelationCall::Sequence(a, b) => outcomes::operands::two(nodes, 4, n, k, a, b),
+        RelationCall::Star(a) => outcomes::operands::one(nodes, 4, n, k, a),
+        RelationCall::Flip(a) => outcomes::operands::one(nodes, 4, n, k, a),
+        RelationCall::Test(var, value) => outcomes::operands::field(k, var, value),
+        RelationCall::Assign(var, value) => outcomes::operands::field(k, var, value),
+        RelationCall::NaiveForward(a) => outcomes::operands::one(nodes, 4, n, k, a),
+        RelationCall::Backward(a) => outcomes::operands::one(nodes, 4, n, k, a),
     }
 }
 
@@ -77,9 +77,9 @@ fn perform(
         RelationCall::Xor(a, b) => relations::xor(nodes, work, s, level, a, b),
         RelationCall::Difference(a, b) => relations::difference(nodes, work, s, level, a, b),
         RelationCall::Complement(a) => relations::complement(nodes, work, s, level, a),
-        RelationCall::Sequence(a, b) => relations::products::sequence(nodes, work, s, level, a, b),
-        RelationCall::Star(a) => relations::products::star(nodes, work, s, level, a),
-        RelationCall::Flip(a) => relations::products::flip(nodes, work, s, level, a),
+        RelationCall::Sequence(a, b) => products::sequence(nodes, work, s, level, a, b),
+        RelationCall::Star(a) => products::star(nodes, work, s, level, a),
+        RelationCall::Flip(a) => relations::flip(nodes, work, s, level, a),
         RelationCall::Test(var, value) => relations::fields::test(
             nodes,
             work,
@@ -96,14 +96,8 @@ fn perform(
             memory::narrow(var),
             value == 1,
         ),
-        RelationCall::NaiveForward(a) => relations::products::naive_forward(
-            nodes,
-            work,
-            s,
-            level,
-            a,
-        ),
-        RelationCall::Backward(a) => relations::products::backward(nodes, work, s, level, a),
+        RelationCall::NaiveForward(a) => products::naive_forward(nodes, work, s, level, a),
+        RelationCall::Backward(a) => products::backward(nodes, work, s, level, a),
     }
 }
 
@@ -113,7 +107,7 @@ fn judged(
     sets: &[u32],
     work: &mut [u32],
     call: RelationCall,
-) -> crate::Answer
+) -> outcomes::Answer
     requires { ⌜ Accepted rel (memories (now relations) (now sets)) (now work) ⌝ }
     ensures { λ r. ⌜ told r (memories (now (relations .exit)) (now (sets .entry)))
         ≡ step (relation-call call) (memories (now (relations .entry)) (now (sets .entry))) ⌝ }
@@ -122,8 +116,8 @@ fn judged(
     let n = memory::wide(relations[1]);
     let check = check(&relations[2..], n, k, call);
     match check {
-        crate::Check::No(r) => crate::Answer::Declined(r),
-        crate::Check::Level(l) => {
+        outcomes::Check::No(r) => outcomes::Answer::Declined(r),
+        outcomes::Check::Level(l) => {
             let s = memory::Arena {
                 ok: true,
                 n: n,
@@ -137,7 +131,7 @@ fn judged(
                 memory::narrow(l),
                 call,
             );
-            crate::finish::finish(relations, 2, 4, n, r)
+            outcomes::finish::finish(relations, 2, 4, n, r)
         }
     }
 }
@@ -148,14 +142,14 @@ pub fn relation_call(
     sets: &[u32],
     work: &mut [u32],
     call: RelationCall,
-) -> crate::Answer
+) -> outcomes::Answer
     ensures { λ r. ⌜ (told r (memories (now (relations .exit)) (now (sets .entry)))
         ≡ step (relation-call call) (memories (now (relations .entry)) (now (sets .entry))))
         × (now (work .exit) ≡ replicate (length (now (work .entry))) 0) ⌝ }
 {
     if !judging::is_store(relations, sets, work, false) {
         nodes::clear(work);
-        return crate::Answer::Declined(crate::Refusal::NotStore);
+        return outcomes::Answer::Declined(outcomes::Refusal::NotStore);
     }
     let r = judged(relations, sets, work, call);
     nodes::clear(work);

@@ -4,10 +4,10 @@ ghost use Prim.Native.Nat.{ℕ, _^_, _<_, _≤_};
 ghost use lib.ListN.{length, replicate};
 ghost use Rattle.nodes.specs.Store.{rel};
 ghost use Rattle.judging.specs.Memory.{memories};
-ghost use Rattle.store.specs.Outcome.{told};
+ghost use Rattle.outcomes.specs.Outcome.{told};
 ghost use Rattle.store.specs.Calls.{relation-read, step};
 ghost use Rattle.store.specs.RelationCalls.{relation-read-declines, relation-read-answer};
-ghost use Rattle.store.specs.Checking.{Checks, Answered, Accepted};
+ghost use Rattle.outcomes.specs.Checking.{Checks, Answered, Accepted};
 ghost use Rattle.store.specs.RelationChecking.{RelationReadSafe, WalksPair};
 
 // A call with its arguments, after spp.rs; `relates` has a relation, an input and an output.
@@ -18,14 +18,14 @@ pub enum RelationRead {
 }
 
 // The level of a call's operands on the first n nodes.
-fn check(nodes: &[u32], n: usize, k: u32, call: RelationRead) -> crate::Check
+fn check(nodes: &[u32], n: usize, k: u32, call: RelationRead) -> outcomes::Check
     requires { ⌜ k ≤ 32 ⌝ }
     ensures { λ r. ⌜ Checks rel (now (nodes .entry)) n k (λ S v. relation-read-declines k call S v) r ⌝ }
 {
     match call {
-        RelationRead::Get(a) => crate::operands::parent(nodes, 4, n, k, a),
-        RelationRead::IsZero(a) => crate::operands::one(nodes, 4, n, k, a),
-        RelationRead::Relates(a, input, output) => crate::operands::packets(
+        RelationRead::Get(a) => outcomes::operands::parent(nodes, 4, n, k, a),
+        RelationRead::IsZero(a) => outcomes::operands::one(nodes, 4, n, k, a),
+        RelationRead::Relates(a, input, output) => outcomes::operands::packets(
             nodes,
             n,
             k,
@@ -43,11 +43,11 @@ fn relates(nodes: &[u32], level: u8, a: u32, input: u32, output: u32) -> bool
 {
     let mut h = a;
     let mut l = level;
-    let mut unit = crate::operands::power(level);
+    let mut unit = outcomes::operands::power(level);
     while l > 0 {
         unit = unit / 2;
-        let i = crate::operands::wide(input) / unit % 2;
-        let o = crate::operands::wide(output) / unit % 2;
+        let i = outcomes::operands::wide(input) / unit % 2;
+        let o = outcomes::operands::wide(output) / unit % 2;
         h = memory::words::child_of(nodes, 4, h, (2 * i + o) as usize);
         l -= 1;
     }
@@ -55,7 +55,13 @@ fn relates(nodes: &[u32], level: u8, a: u32, input: u32, output: u32) -> bool
 }
 
 // The answer of a call whose operands are of this level, among n nodes.
-fn answer(nodes: &[u32], work: &mut [u32], n: usize, level: u8, call: RelationRead) -> crate::Answer
+fn answer(
+    nodes: &[u32],
+    work: &mut [u32],
+    n: usize,
+    level: u8,
+    call: RelationRead,
+) -> outcomes::Answer
     requires { ⌜ level ≤ 32 ⌝ }
     ensures { λ r. ⌜ Answered rel (now (nodes .entry)) (now (work .entry)) n
         (λ S. RelationReadSafe S level call) (λ S. relation-read-answer S level call) r ⌝ }
@@ -63,7 +69,7 @@ fn answer(nodes: &[u32], work: &mut [u32], n: usize, level: u8, call: RelationRe
     match call {
         RelationRead::Get(a) => {
             let x = relations::get(nodes, a);
-            crate::Answer::RelationNode(x.x00, x.x01, x.x10, x.x11)
+            outcomes::Answer::RelationNode(x.x00, x.x01, x.x10, x.x11)
         }
         RelationRead::IsZero(a) => {
             let s = memory::Arena {
@@ -72,9 +78,9 @@ fn answer(nodes: &[u32], work: &mut [u32], n: usize, level: u8, call: RelationRe
                 h: 0,
             };
             let r = relations::is_zero(nodes, work, s, level, a);
-            crate::Answer::Truth(r.h == 1)
+            outcomes::Answer::Truth(r.h == 1)
         }
-        RelationRead::Relates(a, input, output) => crate::Answer::Truth(relates(
+        RelationRead::Relates(a, input, output) => outcomes::Answer::Truth(relates(
             nodes,
             level,
             a,
@@ -85,7 +91,7 @@ fn answer(nodes: &[u32], work: &mut [u32], n: usize, level: u8, call: RelationRe
 }
 
 // Checks a call on a store, and answers it.
-fn judged(relations: &[u32], sets: &[u32], work: &mut [u32], call: RelationRead) -> crate::Answer
+fn judged(relations: &[u32], sets: &[u32], work: &mut [u32], call: RelationRead) -> outcomes::Answer
     requires { ⌜ Accepted rel (memories (now relations) (now sets)) (now work) ⌝ }
     ensures { λ r. ⌜ told r (memories (now (relations .entry)) (now (sets .entry)))
         ≡ step (relation-read call) (memories (now (relations .entry)) (now (sets .entry))) ⌝ }
@@ -94,8 +100,8 @@ fn judged(relations: &[u32], sets: &[u32], work: &mut [u32], call: RelationRead)
     let n = memory::wide(relations[1]);
     let check = check(&relations[2..], n, k, call);
     match check {
-        crate::Check::No(r) => crate::Answer::Declined(r),
-        crate::Check::Level(l) => answer(&relations[2..], work, n, memory::narrow(l), call),
+        outcomes::Check::No(r) => outcomes::Answer::Declined(r),
+        outcomes::Check::Level(l) => answer(&relations[2..], work, n, memory::narrow(l), call),
     }
 }
 
@@ -105,14 +111,14 @@ pub fn relation_read(
     sets: &[u32],
     work: &mut [u32],
     call: RelationRead,
-) -> crate::Answer
+) -> outcomes::Answer
     ensures { λ r. ⌜ (told r (memories (now (relations .entry)) (now (sets .entry)))
         ≡ step (relation-read call) (memories (now (relations .entry)) (now (sets .entry))))
         × (now (work .exit) ≡ replicate (length (now (work .entry))) 0) ⌝ }
 {
     if !judging::is_store(relations, sets, work, false) {
         nodes::clear(work);
-        return crate::Answer::Declined(crate::Refusal::NotStore);
+        return outcomes::Answer::Declined(outcomes::Refusal::NotStore);
     }
     let r = judged(relations, sets, work, call);
     nodes::clear(work);

@@ -4,10 +4,10 @@ ghost use lib.ListN.{length, replicate};
 ghost use Rattle.nodes.specs.Store.{set};
 ghost use Rattle.memory.specs.Arena.{Performs};
 ghost use Rattle.judging.specs.Memory.{memories};
-ghost use Rattle.store.specs.Outcome.{told};
+ghost use Rattle.outcomes.specs.Outcome.{told};
 ghost use Rattle.store.specs.Calls.{set-call, step};
 ghost use Rattle.store.specs.SetCalls.{set-declines, set-program};
-ghost use Rattle.store.specs.Checking.{Checks, Accepted};
+ghost use Rattle.outcomes.specs.Checking.{Checks, Accepted};
 ghost use Rattle.store.specs.SetChecking.{SetFieldFits};
 
 // A call with its arguments, after sp.rs: handles, and for `test` and `ifelse` a field first; a value is 0 or 1.
@@ -24,19 +24,19 @@ pub enum SetCall {
 }
 
 // Whether a call may run on the first n nodes.
-fn check(nodes: &[u32], n: usize, k: u32, call: SetCall) -> crate::Check
+fn check(nodes: &[u32], n: usize, k: u32, call: SetCall) -> outcomes::Check
     ensures { λ r. ⌜ Checks set (now (nodes .entry)) n k (λ S v. set-declines k call S v) r ⌝ }
 {
     match call {
-        SetCall::Mk(a, b) => crate::operands::children(nodes, 2, n, k, a, b),
-        SetCall::Zero => crate::Check::Level(k),
-        SetCall::One => crate::Check::Level(k),
-        SetCall::Union(a, b) => crate::operands::two(nodes, 2, n, k, a, b),
-        SetCall::Intersect(a, b) => crate::operands::two(nodes, 2, n, k, a, b),
-        SetCall::Xor(a, b) => crate::operands::two(nodes, 2, n, k, a, b),
-        SetCall::Difference(a, b) => crate::operands::two(nodes, 2, n, k, a, b),
-        SetCall::Test(var, value) => crate::operands::field(k, var, value),
-        SetCall::Ifelse(var, t, e) => crate::operands::branches(nodes, 2, n, k, var, t, e),
+        SetCall::Mk(a, b) => outcomes::operands::children(nodes, 2, n, k, a, b),
+        SetCall::Zero => outcomes::Check::Level(k),
+        SetCall::One => outcomes::Check::Level(k),
+        SetCall::Union(a, b) => outcomes::operands::two(nodes, 2, n, k, a, b),
+        SetCall::Intersect(a, b) => outcomes::operands::two(nodes, 2, n, k, a, b),
+        SetCall::Xor(a, b) => outcomes::operands::two(nodes, 2, n, k, a, b),
+        SetCall::Difference(a, b) => outcomes::operands::two(nodes, 2, n, k, a, b),
+        SetCall::Test(var, value) => outcomes::operands::field(k, var, value),
+        SetCall::Ifelse(var, t, e) => outcomes::operands::branches(nodes, 2, n, k, var, t, e),
     }
 }
 
@@ -81,7 +81,7 @@ fn perform(
 }
 
 // Checks a call on a store, and runs it.
-fn judged(relations: &[u32], sets: &mut [u32], work: &mut [u32], call: SetCall) -> crate::Answer
+fn judged(relations: &[u32], sets: &mut [u32], work: &mut [u32], call: SetCall) -> outcomes::Answer
     requires { ⌜ Accepted set (memories (now relations) (now sets)) (now work) ⌝ }
     ensures { λ r. ⌜ told r (memories (now (relations .entry)) (now (sets .exit)))
         ≡ step (set-call call) (memories (now (relations .entry)) (now (sets .entry))) ⌝ }
@@ -90,8 +90,8 @@ fn judged(relations: &[u32], sets: &mut [u32], work: &mut [u32], call: SetCall) 
     let n = memory::wide(sets[0]);
     let check = check(&sets[1..], n, k, call);
     match check {
-        crate::Check::No(r) => crate::Answer::Declined(r),
-        crate::Check::Level(l) => {
+        outcomes::Check::No(r) => outcomes::Answer::Declined(r),
+        outcomes::Check::Level(l) => {
             let s = memory::Arena {
                 ok: true,
                 n: n,
@@ -105,7 +105,7 @@ fn judged(relations: &[u32], sets: &mut [u32], work: &mut [u32], call: SetCall) 
                 memory::narrow(l),
                 call,
             );
-            crate::finish::finish(sets, 1, 2, n, r)
+            outcomes::finish::finish(sets, 1, 2, n, r)
         }
     }
 }
@@ -116,14 +116,14 @@ pub fn set_call(
     sets: &mut [u32],
     work: &mut [u32],
     call: SetCall,
-) -> crate::Answer
+) -> outcomes::Answer
     ensures { λ r. ⌜ (told r (memories (now (relations .entry)) (now (sets .exit)))
         ≡ step (set-call call) (memories (now (relations .entry)) (now (sets .entry))))
         × (now (work .exit) ≡ replicate (length (now (work .entry))) 0) ⌝ }
 {
     if !judging::is_store(relations, sets, work, true) {
         nodes::clear(work);
-        return crate::Answer::Declined(crate::Refusal::NotStore);
+        return outcomes::Answer::Declined(outcomes::Refusal::NotStore);
     }
     let r = judged(relations, sets, work, call);
     nodes::clear(work);

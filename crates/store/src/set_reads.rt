@@ -3,10 +3,10 @@ ghost use mathlib.Core.Path.{_≡_};
 ghost use lib.ListN.{length, replicate};
 ghost use Rattle.nodes.specs.Store.{set};
 ghost use Rattle.judging.specs.Memory.{memories};
-ghost use Rattle.store.specs.Outcome.{told};
+ghost use Rattle.outcomes.specs.Outcome.{told};
 ghost use Rattle.store.specs.Calls.{set-read, step};
 ghost use Rattle.store.specs.SetCalls.{set-read-declines, set-read-answer};
-ghost use Rattle.store.specs.Checking.{Checks, Answered, Accepted};
+ghost use Rattle.outcomes.specs.Checking.{Checks, Answered, Accepted};
 ghost use Rattle.store.specs.SetChecking.{SetReadSafe};
 
 // A call with its arguments, after sp.rs.
@@ -18,19 +18,19 @@ pub enum SetRead {
 }
 
 // The level of a call's operands on the first n nodes.
-fn check(nodes: &[u32], n: usize, k: u32, call: SetRead) -> crate::Check
+fn check(nodes: &[u32], n: usize, k: u32, call: SetRead) -> outcomes::Check
     ensures { λ r. ⌜ Checks set (now (nodes .entry)) n k (λ S v. set-read-declines k call S v) r ⌝ }
 {
     match call {
-        SetRead::Get(a) => crate::operands::parent(nodes, 2, n, k, a),
-        SetRead::Complement(a) => crate::operands::one(nodes, 2, n, k, a),
-        SetRead::IsZero(a) => crate::operands::one(nodes, 2, n, k, a),
-        SetRead::Intersects(a, b) => crate::operands::two(nodes, 2, n, k, a, b),
+        SetRead::Get(a) => outcomes::operands::parent(nodes, 2, n, k, a),
+        SetRead::Complement(a) => outcomes::operands::one(nodes, 2, n, k, a),
+        SetRead::IsZero(a) => outcomes::operands::one(nodes, 2, n, k, a),
+        SetRead::Intersects(a, b) => outcomes::operands::two(nodes, 2, n, k, a, b),
     }
 }
 
 // The answer of a call whose operands are of this level, among n nodes.
-fn answer(nodes: &[u32], work: &mut [u32], n: usize, level: u8, call: SetRead) -> crate::Answer
+fn answer(nodes: &[u32], work: &mut [u32], n: usize, level: u8, call: SetRead) -> outcomes::Answer
     ensures { λ r. ⌜ Answered set (now (nodes .entry)) (now (work .entry)) n (λ S. SetReadSafe S level call) (λ S. set-read-answer S level call) r ⌝ }
 {
     let s = memory::Arena {
@@ -41,22 +41,22 @@ fn answer(nodes: &[u32], work: &mut [u32], n: usize, level: u8, call: SetRead) -
     match call {
         SetRead::Get(a) => {
             let x = sets::get(nodes, a);
-            crate::Answer::SetNode(x.x0, x.x1)
+            outcomes::Answer::SetNode(x.x0, x.x1)
         }
-        SetRead::Complement(a) => crate::Answer::Handle(memory::words::other(a)),
+        SetRead::Complement(a) => outcomes::Answer::Handle(memory::words::other(a)),
         SetRead::IsZero(a) => {
             let r = sets::is_zero(nodes, work, s, level, a);
-            crate::Answer::Truth(r.h == 1)
+            outcomes::Answer::Truth(r.h == 1)
         }
         SetRead::Intersects(a, b) => {
             let r = sets::intersects(nodes, work, s, level, a, b);
-            crate::Answer::Truth(r.h == 1)
+            outcomes::Answer::Truth(r.h == 1)
         }
     }
 }
 
 // Checks a call on a store, and answers it.
-fn judged(relations: &[u32], sets: &[u32], work: &mut [u32], call: SetRead) -> crate::Answer
+fn judged(relations: &[u32], sets: &[u32], work: &mut [u32], call: SetRead) -> outcomes::Answer
     requires { ⌜ Accepted set (memories (now relations) (now sets)) (now work) ⌝ }
     ensures { λ r. ⌜ told r (memories (now (relations .entry)) (now (sets .entry)))
         ≡ step (set-read call) (memories (now (relations .entry)) (now (sets .entry))) ⌝ }
@@ -65,20 +65,25 @@ fn judged(relations: &[u32], sets: &[u32], work: &mut [u32], call: SetRead) -> c
     let n = memory::wide(sets[0]);
     let check = check(&sets[1..], n, k, call);
     match check {
-        crate::Check::No(r) => crate::Answer::Declined(r),
-        crate::Check::Level(l) => answer(&sets[1..], work, n, memory::narrow(l), call),
+        outcomes::Check::No(r) => outcomes::Answer::Declined(r),
+        outcomes::Check::Level(l) => answer(&sets[1..], work, n, memory::narrow(l), call),
     }
 }
 
 // A call on any numbers in both memories.
-pub fn set_read(relations: &[u32], sets: &[u32], work: &mut [u32], call: SetRead) -> crate::Answer
+pub fn set_read(
+    relations: &[u32],
+    sets: &[u32],
+    work: &mut [u32],
+    call: SetRead,
+) -> outcomes::Answer
     ensures { λ r. ⌜ (told r (memories (now (relations .entry)) (now (sets .entry)))
         ≡ step (set-read call) (memories (now (relations .entry)) (now (sets .entry))))
         × (now (work .exit) ≡ replicate (length (now (work .entry))) 0) ⌝ }
 {
     if !judging::is_store(relations, sets, work, true) {
         nodes::clear(work);
-        return crate::Answer::Declined(crate::Refusal::NotStore);
+        return outcomes::Answer::Declined(outcomes::Refusal::NotStore);
     }
     let r = judged(relations, sets, work, call);
     nodes::clear(work);

@@ -1,14 +1,20 @@
 -- `constant` runs its program; the measure is the level.
 use Prim.Native.Nat.{ℕ, _<_}
+use native.Mathlib.Omega.{arith}
 use borrow.Author.Needs.{needs}
+use borrow.Author.Tests.{not-true, not-false}
 use borrow.Fn.Kinds.{In}
 use borrow.Fn.PlainCycle.{Measures, is, falls, and}
 use Rattle.nodes.specs.Store.{rel}
 use Rattle.nodes.proofs.Constants.{constant-zero, constant-step}
-use Rattle.memory.proofs.Steps.{performs-by, performs-then, performs-ret}
+use Rattle.memory.proofs.Remembering.{recalled, called-kept}
+use Rattle.memory.proofs.Steps.{begin, performs-by, performs-then, performs-ret, performs-stuck, given}
+use Rattle.relations.proofs.Opened.{constant-memo}
 use Rattle.relations.proofs.constant.Reads as constant
 use Rattle.relations.proofs.constant.Kinds as constant-kinds
 use Rattle.relations.proofs.+constant.Lts-constant as constant-lts
+use Rattle.memory.proofs.memo.recall.Reads as recall-reads
+use Rattle.memory.proofs.memo.remember.Reads as remember-reads
 use Rattle.memory.proofs.place.give.Reads as give-reads
 use Rattle.relations.proofs.mk.Reads as mk-reads
 use Rattle.relations.proofs.+constant.{statement}
@@ -24,20 +30,56 @@ abbrev constant-below : ℕ → In 2 constant-kinds.ps
 constant-below t = and 2 constant-kinds.ps (falls 2 constant-kinds.ps _<_ μ-constant t) constant.Pre
 
 abbrev calls : ℕ → constant-lts.Claims
-calls t = (give-reads.Asked, give-reads.Learnt, constant-below t, constant.Post, mk-reads.Asked, mk-reads.Learnt)
+calls t = (
+  give-reads.Asked,
+  give-reads.Learnt,
+  recall-reads.Asked,
+  recall-reads.Learnt,
+  constant-below t,
+  constant.Post,
+  mk-reads.Asked,
+  mk-reads.Learnt,
+  remember-reads.Asked,
+  remember-reads.Learnt,
+)
 
 pub +constant-spec : {M : Type 1} → statement M
 +constant-spec = close μ-constant
     (λ t. constant-lts.spec (calls t) (constant-at t) constant.Post
+    (λ c. performs-stuck (not-true _ (c .if1 .taken)))
     (λ c κs. search needs)
-    (λ c. performs-by (constant-zero rel _ _ (c .before .if1 .taken)) (performs-ret _ (c .give .ensures)))
+    (λ c. performs-by (constant-zero rel _ _ (c .before .if2 .taken)) (performs-ret _ (c .give .ensures)))
+    (λ c κs. search needs)
     (λ c. search needs)
     (λ c κs. search needs)
-    (λ c κs. search needs)
-    (λ c. search needs)
     (λ c. search needs)
     (λ c.
     let c4 = c .before .before .before .before in
-    let c11 = c4 .before .before .before .before .before .before .before in
-    let c14 = c11 .before .before .before in
-    performs-by (constant-step rel _ _ (c14 .if1 .left)) (performs-then (c11 .constant .ensures) (c4 .mk .ensures))))
+    let c7 = c4 .before .before .before in
+    given (not-false _ (c7 .if1 .left)) (recalled 21 _ _ _ (constant-memo _ _ _) begin (c4 .recall .ensures) (c .before .before .found .given .1))
+    (c .give2 .ensures))
+    (λ c. search needs)
+    (λ c. search needs)
+    (λ c κs.
+    let c6 = c .before .before .before .before .before .before in
+    let c11 = c6 .before .before .before .before .before in
+    (omega (arith, c11 .pre .0, c6 .if2 .left), tt))
+    (λ c κs. search needs)
+    (λ c κs. search needs)
+    (λ c.
+    let c7 = c .before .before .before .before .before .before .before in
+    let c14 = c7 .before .before .before .before .before .before .before in
+    omega (arith, c7 .nodes2 .given, c14 .nodes .given))
+    (λ c.
+    let c5 = c .before .before .before .before .before in
+    let c12 = c5 .before .before .before .before .before .before .before in
+    omega (arith, c .before .work3 .given, c5 .work2 .given, c12 .work .given))
+    (λ c.
+    let c8 = c .before .before .before .before .before .before .before .before in
+    let c15 = c8 .before .before .before .before .before .before .before in
+    let c22 = c15 .before .before .before .before .before .before .before in
+    let c23 = c22 .before in
+    let c27 = c23 .before .before .before .before in
+    called-kept 21 _ _ _ (not-false _ (c23 .if1 .left)) (omega (arith, c27 .fits .level .fits)) (constant-memo _ _ _) begin
+    (performs-by (constant-step rel _ _ (c22 .if2 .left)) (performs-then (c15 .constant .ensures) (c8 .mk .ensures)))
+    (c .before .before .remember .ensures)))

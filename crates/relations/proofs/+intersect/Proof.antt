@@ -8,7 +8,7 @@ use borrow.Author.Tests.{not-true, not-false}
 use Rattle.nodes.specs.Recursion.{node2}
 use Rattle.nodes.specs.Operations.{intersect-op, intersect as intersect-program}
 use Rattle.nodes.proofs.Recursion.{node2-zero}
-use Rattle.memory.proofs.Steps.{by, further, performs-stuck, given, impossible, answer-stands, node-stands}
+use Rattle.memory.proofs.Steps.{by, yes, no, further, empty-says, performs-stuck, given, impossible, answer-stands, node-stands}
 use Rattle.relations.proofs.Children.{opened2, four-returns}
 use Rattle.relations.proofs.Opened.{equal, differ, intersect-is, intersect-memo}
 use Rattle.relations.proofs.intersect.Reads as intersect
@@ -16,6 +16,7 @@ use Rattle.relations.proofs.intersect.Kinds as intersect-kinds
 use Rattle.relations.proofs.+intersect.Lts-intersect as intersect-lts
 use Rattle.memory.proofs.memo.remember.Reads as remember-reads
 use Rattle.memory.proofs.place.give.Reads as give-reads
+use Rattle.memory.proofs.words.relation_properties.Reads as relation-properties-reads
 use Rattle.relations.proofs.get.Reads as get-reads
 use Rattle.relations.proofs.shortcuts.lattice_tests.Reads as lattice-tests-reads
 use Rattle.relations.proofs.mk.Reads as mk-reads
@@ -35,6 +36,8 @@ abbrev calls : ℕ → intersect-lts.Claims
 calls t = (
   give-reads.Asked,
   give-reads.Learnt,
+  relation-properties-reads.Asked,
+  relation-properties-reads.Learnt,
   lattice-tests-reads.Asked,
   lattice-tests-reads.Learnt,
   get-reads.Asked,
@@ -55,6 +58,16 @@ unfolding intersect-program
     (λ c κs. search needs)
     (λ c. given (not-false _ (c .before .before .if1 .left)) (equal (intersect-is _ _ _) (c .before .if2 .taken)) (c .give .ensures))
     (λ c κs. search needs)
+    (λ c κs. search needs)
+    (λ c. search needs)
+    (λ c. search needs)
+    (λ c.
+    let c5 = c .before .before .before .before .before in
+    let c6 = c5 .before in
+    given (not-false _ (c6 .if1 .left)) (yes (differ (intersect-is _ _ _) (c5 .if2 .left))
+    (empty-says (c .before .before .relation-properties .ensures) (c .before .if3 .taken))) (c .give2 .ensures))
+    (λ c κs. search needs)
+    (λ c κs. search needs)
     (λ c. search needs)
     (λ c κs. search needs)
     (λ c. search needs)
@@ -62,43 +75,55 @@ unfolding intersect-program
     (λ c. search needs)
     (λ c.
     let c4 = c .before .before .before .before in
-    let c7 = c4 .before .before .before in
-    let c8 = c7 .before in
-    impossible (not-false _ (c8 .if1 .left))
-    (by (further (differ (intersect-is _ _ _) (c7 .if2 .left))
-    (node-stands (c4 .lattice-tests .ensures (node2 intersect-op _) (intersect-memo _)) (c .before .before .found2 .given .1)))
-    (node2-zero intersect-op _ _ _ (c .if3 .taken))))
+    let c6 = c4 .before .before in
+    let c9 = c6 .before .before .before in
+    let c10 = c9 .before in
+    let c13 = c10 .before .before .before in
+    let c14 = c13 .before in
+    impossible (not-false _ (c14 .if1 .left))
+    (by (further (no (differ (intersect-is _ _ _) (c13 .if2 .left)) (empty-says (c10 .relation-properties .ensures) (c9 .if3 .left)))
+    (node-stands (c4 .lattice-tests .ensures (node2 intersect-op _) _ (intersect-memo _) (c10 .relation-properties .ensures)
+    (c6 .relation-properties2 .ensures)) (c .before .before .found2 .given .1))) (node2-zero intersect-op _ _ _ (c .if4 .taken))))
     (λ c κs. search needs)
     (λ c κs. search needs)
     (λ c. search needs)
     (λ c κs.
     let c6 = c .before .before .before .before .before .before in
-    let c18 = c6 .before .before .before .before .before .before .before .before .before .before .before .before in
-    (omega (arith, c18 .pre .0, c6 .if3 .left), tt))
+    let c20 = c6 .before .before .before .before .before .before .before .before .before .before .before .before .before .before in
+    let c24 = c20 .before .before .before .before in
+    (omega (arith, c24 .pre .0, c6 .if4 .left), tt))
     (λ c κs.
     let c13 = c .before .before .before .before .before .before .before .before .before .before .before .before .before in
-    let c25 = c13 .before .before .before .before .before .before .before .before .before .before .before .before in
-    (omega (arith, c25 .pre .0, c13 .if3 .left), tt))
+    let c27 = c13 .before .before .before .before .before .before .before .before .before .before .before .before .before .before in
+    let c31 = c27 .before .before .before .before in
+    (omega (arith, c31 .pre .0, c13 .if4 .left), tt))
     (λ c κs.
     let c14 = c .before .before .before .before .before .before .before .before .before .before .before .before .before .before in
     let c20 = c14 .before .before .before .before .before .before in
-    let c32 = c20 .before .before .before .before .before .before .before .before .before .before .before .before in
-    (omega (arith, c32 .pre .0, c20 .if3 .left), tt))
+    let c34 = c20 .before .before .before .before .before .before .before .before .before .before .before .before .before .before in
+    let c38 = c34 .before .before .before .before in
+    (omega (arith, c38 .pre .0, c20 .if4 .left), tt))
     (λ c κs.
     let c14 = c .before .before .before .before .before .before .before .before .before .before .before .before .before .before in
     let c27 = c14 .before .before .before .before .before .before .before .before .before .before .before .before .before in
-    let c39 = c27 .before .before .before .before .before .before .before .before .before .before .before .before in
-    (omega (arith, c39 .pre .0, c27 .if3 .left), tt))
+    let c41 = c27 .before .before .before .before .before .before .before .before .before .before .before .before .before .before in
+    let c45 = c41 .before .before .before .before in
+    (omega (arith, c45 .pre .0, c27 .if4 .left), tt))
     (λ c κs. search needs)
     (λ c κs. search needs)
     (λ c. search needs)
     (λ c. search needs)
     (λ c.
     let c4 = c .before .before .before .before in
-    let c7 = c4 .before .before .before in
-    let c8 = c7 .before in
-    given (not-false _ (c8 .if1 .left)) (further (differ (intersect-is _ _ _) (c7 .if2 .left))
-    (answer-stands (c4 .lattice-tests .ensures (node2 intersect-op _) (intersect-memo _)) (c .before .before .found .given .1))) (c .give2 .ensures))
+    let c6 = c4 .before .before in
+    let c9 = c6 .before .before .before in
+    let c10 = c9 .before in
+    let c13 = c10 .before .before .before in
+    let c14 = c13 .before in
+    given (not-false _ (c14 .if1 .left)) (further
+    (no (differ (intersect-is _ _ _) (c13 .if2 .left)) (empty-says (c10 .relation-properties .ensures) (c9 .if3 .left)))
+    (answer-stands (c4 .lattice-tests .ensures (node2 intersect-op _) _ (intersect-memo _) (c10 .relation-properties .ensures)
+    (c6 .relation-properties2 .ensures)) (c .before .before .found .given .1))) (c .give3 .ensures))
     (λ c.
     let c7 = c .before .before .before .before .before .before .before in
     let c14 = c7 .before .before .before .before .before .before .before in
@@ -124,11 +149,15 @@ unfolding intersect-program
     let c43 = c41 .before .before in
     let c45 = c43 .before .before in
     let c47 = c45 .before .before in
-    let c50 = c47 .before .before .before in
-    let c51 = c50 .before in
-    let c55 = c51 .before .before .before .before in
-    four-returns 5 _ _ _ (not-false _ (c51 .if1 .left)) (omega (arith, c55 .fits .level .fits)) (intersect-memo _ _ _)
-    (further (differ (intersect-is _ _ _) (c50 .if2 .left))
-    (node-stands (c47 .lattice-tests .ensures (node2 intersect-op _) (intersect-memo _)) (c45 .found2 .given .1)))
-    (opened2 _ _ _ _ _ (c43 .if3 .left) (c41 .get .ensures) (c39 .get2 .ensures)) (c36 .intersect .ensures) (c29 .intersect2 .ensures)
-    (c22 .intersect3 .ensures) (c15 .intersect4 .ensures) (c8 .mk .ensures) (c .before .before .remember .ensures)))
+    let c49 = c47 .before .before in
+    let c52 = c49 .before .before .before in
+    let c53 = c52 .before in
+    let c56 = c53 .before .before .before in
+    let c57 = c56 .before in
+    let c61 = c57 .before .before .before .before in
+    four-returns 5 _ _ _ (not-false _ (c57 .if1 .left)) (omega (arith, c61 .fits .level .fits)) (intersect-memo _ _ _)
+    (further (no (differ (intersect-is _ _ _) (c56 .if2 .left)) (empty-says (c53 .relation-properties .ensures) (c52 .if3 .left)))
+    (node-stands (c47 .lattice-tests .ensures (node2 intersect-op _) _ (intersect-memo _) (c53 .relation-properties .ensures)
+    (c49 .relation-properties2 .ensures)) (c45 .found2 .given .1))) (opened2 _ _ _ _ _ (c43 .if4 .left) (c41 .get .ensures) (c39 .get2 .ensures))
+    (c36 .intersect .ensures) (c29 .intersect2 .ensures) (c22 .intersect3 .ensures) (c15 .intersect4 .ensures) (c8 .mk .ensures)
+    (c .before .before .remember .ensures)))

@@ -9,14 +9,16 @@ use Rattle.nodes.specs.Store.{rel}
 use Rattle.nodes.specs.Recursion.{node2}
 use Rattle.nodes.specs.Operations.{union-op, union as union-program}
 use Rattle.nodes.proofs.Recursion.{node2-zero}
-use Rattle.memory.proofs.Steps.{by, further, performs-stuck, given, impossible, answer-stands, node-stands}
+use Rattle.memory.proofs.Steps.{by, yes, no, further, empty-says, performs-stuck, given, impossible, answer-stands, node-stands}
 use Rattle.relations.proofs.Children.{opened2, four-returns}
+use Rattle.relations.proofs.Copied.{copied}
 use Rattle.relations.proofs.Opened.{equal, differ, union-is, union-memo}
 use Rattle.relations.proofs.union.Reads as union
 use Rattle.relations.proofs.union.Kinds as union-kinds
 use Rattle.relations.proofs.+union.Lts-union as union-lts
 use Rattle.memory.proofs.memo.remember.Reads as remember-reads
 use Rattle.memory.proofs.place.give.Reads as give-reads
+use Rattle.memory.proofs.words.relation_properties.Reads as relation-properties-reads
 use Rattle.relations.proofs.get.Reads as get-reads
 use Rattle.relations.proofs.shortcuts.lattice_tests.Reads as lattice-tests-reads
 use Rattle.relations.proofs.mk.Reads as mk-reads
@@ -36,6 +38,8 @@ abbrev calls : ℕ → union-lts.Claims
 calls t = (
   give-reads.Asked,
   give-reads.Learnt,
+  relation-properties-reads.Asked,
+  relation-properties-reads.Learnt,
   lattice-tests-reads.Asked,
   lattice-tests-reads.Learnt,
   get-reads.Asked,
@@ -52,9 +56,25 @@ pub +union-spec : {M : Type 1} → statement M
 unfolding union-program
 +union-spec = close μ-union
     (λ t. union-lts.spec (calls t) (union-at t) union.Post
-    (λ c. performs-stuck (not-true _ (c .if1 .taken)))
     (λ c κs. search needs)
-    (λ c. given (not-false _ (c .before .before .if1 .left)) (equal (union-is _ _ _) (c .before .if2 .taken)) (c .give .ensures))
+    (λ c. copied (c .before .before .give .ensures) (performs-stuck (not-true _ (c .if1 .taken))))
+    (λ c κs. search needs)
+    (λ c.
+    let c4 = c .before .before .before .before in
+    copied (c4 .give .ensures) (given (not-false _ (c .before .before .if1 .left)) (equal (union-is _ _ _) (c .before .if2 .taken))
+    (c .give2 .ensures)))
+    (λ c κs. search needs)
+    (λ c κs. search needs)
+    (λ c. search needs)
+    (λ c. search needs)
+    (λ c.
+    let c5 = c .before .before .before .before .before in
+    let c6 = c5 .before in
+    let c8 = c6 .before .before in
+    copied (c8 .give .ensures) (given (not-false _ (c6 .if1 .left))
+    (yes (differ (union-is _ _ _) (c5 .if2 .left)) (empty-says (c .before .before .relation-properties .ensures) (c .before .if3 .taken)))
+    (c .give3 .ensures)))
+    (λ c κs. search needs)
     (λ c κs. search needs)
     (λ c. search needs)
     (λ c κs. search needs)
@@ -63,43 +83,57 @@ unfolding union-program
     (λ c. search needs)
     (λ c.
     let c4 = c .before .before .before .before in
-    let c7 = c4 .before .before .before in
-    let c8 = c7 .before in
-    impossible (not-false _ (c8 .if1 .left))
-    (by (further (differ (union-is _ _ _) (c7 .if2 .left))
-    (node-stands (c4 .lattice-tests .ensures (node2 (union-op rel) _) (union-memo _)) (c .before .before .found2 .given .1)))
-    (node2-zero (union-op rel) _ _ _ (c .if3 .taken))))
+    let c6 = c4 .before .before in
+    let c9 = c6 .before .before .before in
+    let c10 = c9 .before in
+    let c13 = c10 .before .before .before in
+    let c14 = c13 .before in
+    let c16 = c14 .before .before in
+    copied (c16 .give .ensures) (impossible (not-false _ (c14 .if1 .left))
+    (by (further (no (differ (union-is _ _ _) (c13 .if2 .left)) (empty-says (c10 .relation-properties .ensures) (c9 .if3 .left)))
+    (node-stands (c4 .lattice-tests .ensures (node2 (union-op rel) _) _ (union-memo _) (c10 .relation-properties .ensures)
+    (c6 .relation-properties2 .ensures)) (c .before .before .found2 .given .1))) (node2-zero (union-op rel) _ _ _ (c .if4 .taken)))))
     (λ c κs. search needs)
     (λ c κs. search needs)
     (λ c. search needs)
     (λ c κs.
     let c6 = c .before .before .before .before .before .before in
-    let c18 = c6 .before .before .before .before .before .before .before .before .before .before .before .before in
-    (omega (arith, c18 .pre .0, c6 .if3 .left), tt))
+    let c20 = c6 .before .before .before .before .before .before .before .before .before .before .before .before .before .before in
+    let c25 = c20 .before .before .before .before .before in
+    (omega (arith, c25 .pre .0, c6 .if4 .left), tt))
     (λ c κs.
     let c13 = c .before .before .before .before .before .before .before .before .before .before .before .before .before in
-    let c25 = c13 .before .before .before .before .before .before .before .before .before .before .before .before in
-    (omega (arith, c25 .pre .0, c13 .if3 .left), tt))
+    let c27 = c13 .before .before .before .before .before .before .before .before .before .before .before .before .before .before in
+    let c32 = c27 .before .before .before .before .before in
+    (omega (arith, c32 .pre .0, c13 .if4 .left), tt))
     (λ c κs.
     let c14 = c .before .before .before .before .before .before .before .before .before .before .before .before .before .before in
     let c20 = c14 .before .before .before .before .before .before in
-    let c32 = c20 .before .before .before .before .before .before .before .before .before .before .before .before in
-    (omega (arith, c32 .pre .0, c20 .if3 .left), tt))
+    let c34 = c20 .before .before .before .before .before .before .before .before .before .before .before .before .before .before in
+    let c39 = c34 .before .before .before .before .before in
+    (omega (arith, c39 .pre .0, c20 .if4 .left), tt))
     (λ c κs.
     let c14 = c .before .before .before .before .before .before .before .before .before .before .before .before .before .before in
     let c27 = c14 .before .before .before .before .before .before .before .before .before .before .before .before .before in
-    let c39 = c27 .before .before .before .before .before .before .before .before .before .before .before .before in
-    (omega (arith, c39 .pre .0, c27 .if3 .left), tt))
+    let c41 = c27 .before .before .before .before .before .before .before .before .before .before .before .before .before .before in
+    let c46 = c41 .before .before .before .before .before in
+    (omega (arith, c46 .pre .0, c27 .if4 .left), tt))
     (λ c κs. search needs)
     (λ c κs. search needs)
     (λ c. search needs)
     (λ c. search needs)
     (λ c.
     let c4 = c .before .before .before .before in
-    let c7 = c4 .before .before .before in
-    let c8 = c7 .before in
-    given (not-false _ (c8 .if1 .left)) (further (differ (union-is _ _ _) (c7 .if2 .left))
-    (answer-stands (c4 .lattice-tests .ensures (node2 (union-op rel) _) (union-memo _)) (c .before .before .found .given .1))) (c .give2 .ensures))
+    let c6 = c4 .before .before in
+    let c9 = c6 .before .before .before in
+    let c10 = c9 .before in
+    let c13 = c10 .before .before .before in
+    let c14 = c13 .before in
+    let c16 = c14 .before .before in
+    copied (c16 .give .ensures) (given (not-false _ (c14 .if1 .left))
+    (further (no (differ (union-is _ _ _) (c13 .if2 .left)) (empty-says (c10 .relation-properties .ensures) (c9 .if3 .left)))
+    (answer-stands (c4 .lattice-tests .ensures (node2 (union-op rel) _) _ (union-memo _) (c10 .relation-properties .ensures)
+    (c6 .relation-properties2 .ensures)) (c .before .before .found .given .1))) (c .give4 .ensures)))
     (λ c.
     let c7 = c .before .before .before .before .before .before .before in
     let c14 = c7 .before .before .before .before .before .before .before in
@@ -125,11 +159,16 @@ unfolding union-program
     let c43 = c41 .before .before in
     let c45 = c43 .before .before in
     let c47 = c45 .before .before in
-    let c50 = c47 .before .before .before in
-    let c51 = c50 .before in
-    let c55 = c51 .before .before .before .before in
-    four-returns 4 _ _ _ (not-false _ (c51 .if1 .left)) (omega (arith, c55 .fits .level .fits)) (union-memo _ _ _)
-    (further (differ (union-is _ _ _) (c50 .if2 .left))
-    (node-stands (c47 .lattice-tests .ensures (node2 (union-op rel) _) (union-memo _)) (c45 .found2 .given .1)))
-    (opened2 _ _ _ _ _ (c43 .if3 .left) (c41 .get .ensures) (c39 .get2 .ensures)) (c36 .union .ensures) (c29 .union2 .ensures) (c22 .union3 .ensures)
-    (c15 .union4 .ensures) (c8 .mk .ensures) (c .before .before .remember .ensures)))
+    let c49 = c47 .before .before in
+    let c52 = c49 .before .before .before in
+    let c53 = c52 .before in
+    let c56 = c53 .before .before .before in
+    let c57 = c56 .before in
+    let c59 = c57 .before .before in
+    let c62 = c59 .before .before .before in
+    copied (c59 .give .ensures) (four-returns 4 _ _ _ (not-false _ (c57 .if1 .left)) (omega (arith, c62 .fits .level .fits)) (union-memo _ _ _)
+    (further (no (differ (union-is _ _ _) (c56 .if2 .left)) (empty-says (c53 .relation-properties .ensures) (c52 .if3 .left)))
+    (node-stands (c47 .lattice-tests .ensures (node2 (union-op rel) _) _ (union-memo _) (c53 .relation-properties .ensures)
+    (c49 .relation-properties2 .ensures)) (c45 .found2 .given .1))) (opened2 _ _ _ _ _ (c43 .if4 .left) (c41 .get .ensures) (c39 .get2 .ensures))
+    (c36 .union .ensures) (c29 .union2 .ensures) (c22 .union3 .ensures) (c15 .union4 .ensures) (c8 .mk .ensures)
+    (c .before .before .remember .ensures))))

@@ -10,7 +10,6 @@ pub mk-spec : {M : Type 1} → statement M
 mk-spec =
     tie.close
     (tie.spec
-    (λ c. search needs)
     (λ c κs. search needs)
     (λ c. omega (arith, c .before .before .before .before .before .join .ensures .small))
     (λ c. search needs)

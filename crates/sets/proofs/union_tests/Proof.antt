@@ -1,12 +1,10 @@
 -- `union_tests` knows what the properties and the memo say of a union.
-use mathlib.Core.Path.{refl}
 use borrow.Author.Needs.{needs}
 use borrow.Author.Tests.{lt-ltb, le-ltb}
-use Rattle.nodes.specs.Store.{set}
 use Rattle.memory.proofs.Steps.{begin, yes, no, empty-says, universal-says, less-says, answer}
 use Rattle.memory.proofs.Remembering.{answer-recalled}
 use Rattle.sets.proofs.Opened.{union-memo}
-use Rattle.memory.proofs.words.properties.Reads as properties-reads
+use Rattle.memory.proofs.words.set_properties.Reads as set-properties-reads
 use Rattle.memory.proofs.memo.recall.Reads as recall-reads
 use Rattle.sets.proofs.union_tests.Statement.{statement}
 use Rattle.sets.proofs.union_tests.Tie as tie
@@ -14,32 +12,32 @@ use Rattle.sets.proofs.union_tests.Reads as reads
 use Rattle.sets.proofs.union_tests.Lts as lts
 
 abbrev calls : lts.Claims
-calls = (properties-reads.Asked, properties-reads.Learnt, recall-reads.Asked, recall-reads.Learnt)
+calls = (set-properties-reads.Asked, set-properties-reads.Learnt, recall-reads.Asked, recall-reads.Learnt)
 
 pub union-tests-spec : {M : Type 1} → statement M
 union-tests-spec =
     tie.close
     (tie.spec
     (λ c κs. search needs)
-    (λ c. answer (yes begin (empty-says (c .before .properties .ensures set refl) (c .if1 .taken))))
+    (λ c. answer (yes begin (empty-says (c .before .set-properties .ensures) (c .if1 .taken))))
     (λ c κs. search needs)
     (λ c.
     let c3 = c .before .before .before in
-    answer (yes (no begin (empty-says (c3 .properties .ensures set refl) (c .before .before .if1 .left)))
-    (universal-says (c .before .properties2 .ensures set refl) (c .if2 .taken))))
+    answer (yes (no begin (empty-says (c3 .set-properties .ensures) (c .before .before .if1 .left)))
+    (universal-says (c .before .set-properties2 .ensures) (c .if2 .taken))))
     (λ c.
     let c3 = c .before .before .before in
     let c4 = c3 .before in
-    answer (yes (no (no begin (empty-says (c4 .properties .ensures set refl) (c3 .if1 .left)))
-    (universal-says (c .before .before .properties2 .ensures set refl) (c .before .if2 .left)))
-    (empty-says (c .before .before .properties2 .ensures set refl) (c .if3 .taken))))
+    answer (yes (no (no begin (empty-says (c4 .set-properties .ensures) (c3 .if1 .left)))
+    (universal-says (c .before .before .set-properties2 .ensures) (c .before .if2 .left)))
+    (empty-says (c .before .before .set-properties2 .ensures) (c .if3 .taken))))
     (λ c.
     let c3 = c .before .before .before in
     let c4 = c3 .before in
     let c5 = c4 .before in
-    answer (yes (no (no (no begin (empty-says (c5 .properties .ensures set refl) (c4 .if1 .left)))
-    (universal-says (c3 .properties2 .ensures set refl) (c .before .before .if2 .left)))
-    (empty-says (c3 .properties2 .ensures set refl) (c .before .if3 .left))) (universal-says (c5 .properties .ensures set refl) (c .if4 .taken))))
+    answer (yes (no (no (no begin (empty-says (c5 .set-properties .ensures) (c4 .if1 .left)))
+    (universal-says (c3 .set-properties2 .ensures) (c .before .before .if2 .left)))
+    (empty-says (c3 .set-properties2 .ensures) (c .before .if3 .left))) (universal-says (c5 .set-properties .ensures) (c .if4 .taken))))
     (λ c κs. search needs)
     (λ c.
     let c3 = c .before .before .before in
@@ -48,9 +46,9 @@ union-tests-spec =
     let c6 = c5 .before in
     let c7 = c6 .before in
     answer-recalled 1 _ _ _ (union-memo _ _ _) (yes
-    (no (no (no (no begin (empty-says (c7 .properties .ensures set refl) (c6 .if1 .left)))
-    (universal-says (c5 .properties2 .ensures set refl) (c4 .if2 .left))) (empty-says (c5 .properties2 .ensures set refl) (c3 .if3 .left)))
-    (universal-says (c7 .properties .ensures set refl) (c .before .before .if4 .left))) (less-says (lt-ltb _ _ (c .before .if5 .taken))))
+    (no (no (no (no begin (empty-says (c7 .set-properties .ensures) (c6 .if1 .left)))
+    (universal-says (c5 .set-properties2 .ensures) (c4 .if2 .left))) (empty-says (c5 .set-properties2 .ensures) (c3 .if3 .left)))
+    (universal-says (c7 .set-properties .ensures) (c .before .before .if4 .left))) (less-says (lt-ltb _ _ (c .before .if5 .taken))))
     (c .recall .ensures))
     (λ c κs. search needs)
     (λ c.
@@ -60,6 +58,6 @@ union-tests-spec =
     let c6 = c5 .before in
     let c7 = c6 .before in
     answer-recalled 1 _ _ _ (union-memo _ _ _) (no (no
-    (no (no (no begin (empty-says (c7 .properties .ensures set refl) (c6 .if1 .left))) (universal-says (c5 .properties2 .ensures set refl) (c4 .if2 .left)))
-    (empty-says (c5 .properties2 .ensures set refl) (c3 .if3 .left))) (universal-says (c7 .properties .ensures set refl) (c .before .before .if4 .left)))
+    (no (no (no begin (empty-says (c7 .set-properties .ensures) (c6 .if1 .left))) (universal-says (c5 .set-properties2 .ensures) (c4 .if2 .left)))
+    (empty-says (c5 .set-properties2 .ensures) (c3 .if3 .left))) (universal-says (c7 .set-properties .ensures) (c .before .before .if4 .left)))
     (less-says (le-ltb _ _ (c .before .if5 .left)))) (c .recall2 .ensures)))

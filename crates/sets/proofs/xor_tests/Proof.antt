@@ -1,8 +1,6 @@
 -- `xor_tests` knows what the properties and the memo say of a symmetric difference.
-use mathlib.Core.Path.{refl}
 use borrow.Author.Needs.{needs}
 use borrow.Author.Tests.{lt-ltb, le-ltb}
-use Rattle.nodes.specs.Store.{set}
 use Rattle.memory.proofs.Steps.{begin, by, yes, no, empty-says, universal-says, less-says, answer}
 use Rattle.memory.proofs.Remembering.{answer-recalled}
 use Rattle.sets.proofs.Opened.{complement-is, xor-memo}
@@ -14,29 +12,29 @@ xor-tests-spec =
     tie.close
     (tie.spec
     (λ c κs. search needs)
-    (λ c. answer (yes begin (empty-says (c .before .properties .ensures set refl) (c .if1 .taken))))
+    (λ c. answer (yes begin (empty-says (c .before .set-properties .ensures) (c .if1 .taken))))
     (λ c κs. search needs)
     (λ c.
     let c3 = c .before .before .before in
-    answer (yes (no begin (empty-says (c3 .properties .ensures set refl) (c .before .before .if1 .left)))
-    (empty-says (c .before .properties2 .ensures set refl) (c .if2 .taken))))
+    answer (yes (no begin (empty-says (c3 .set-properties .ensures) (c .before .before .if1 .left)))
+    (empty-says (c .before .set-properties2 .ensures) (c .if2 .taken))))
     (λ c κs. search needs)
     (λ c.
     let c3 = c .before .before .before in
     let c4 = c3 .before in
     let c5 = c4 .before in
-    answer (by (yes (no (no begin (empty-says (c5 .properties .ensures set refl) (c4 .if1 .left)))
-    (empty-says (c3 .properties2 .ensures set refl) (c .before .before .if2 .left)))
-    (universal-says (c5 .properties .ensures set refl) (c .before .if3 .taken))) (complement-is _ _ (c .other .ensures))))
+    answer (by (yes (no (no begin (empty-says (c5 .set-properties .ensures) (c4 .if1 .left)))
+    (empty-says (c3 .set-properties2 .ensures) (c .before .before .if2 .left)))
+    (universal-says (c5 .set-properties .ensures) (c .before .if3 .taken))) (complement-is _ _ (c .other .ensures))))
     (λ c κs. search needs)
     (λ c.
     let c3 = c .before .before .before in
     let c4 = c3 .before in
     let c5 = c4 .before in
     let c6 = c5 .before in
-    answer (by (yes (no (no (no begin (empty-says (c6 .properties .ensures set refl) (c5 .if1 .left)))
-    (empty-says (c4 .properties2 .ensures set refl) (c3 .if2 .left))) (universal-says (c6 .properties .ensures set refl) (c .before .before .if3 .left)))
-    (universal-says (c4 .properties2 .ensures set refl) (c .before .if4 .taken))) (complement-is _ _ (c .other2 .ensures))))
+    answer (by (yes (no (no (no begin (empty-says (c6 .set-properties .ensures) (c5 .if1 .left)))
+    (empty-says (c4 .set-properties2 .ensures) (c3 .if2 .left))) (universal-says (c6 .set-properties .ensures) (c .before .before .if3 .left)))
+    (universal-says (c4 .set-properties2 .ensures) (c .before .if4 .taken))) (complement-is _ _ (c .other2 .ensures))))
     (λ c κs. search needs)
     (λ c.
     let c3 = c .before .before .before in
@@ -45,9 +43,9 @@ xor-tests-spec =
     let c6 = c5 .before in
     let c7 = c6 .before in
     answer-recalled 2 _ _ _ (xor-memo _ _ _) (yes (no
-    (no (no (no begin (empty-says (c7 .properties .ensures set refl) (c6 .if1 .left))) (empty-says (c5 .properties2 .ensures set refl) (c4 .if2 .left)))
-    (universal-says (c7 .properties .ensures set refl) (c3 .if3 .left)))
-    (universal-says (c5 .properties2 .ensures set refl) (c .before .before .if4 .left))) (less-says (lt-ltb _ _ (c .before .if5 .taken))))
+    (no (no (no begin (empty-says (c7 .set-properties .ensures) (c6 .if1 .left))) (empty-says (c5 .set-properties2 .ensures) (c4 .if2 .left)))
+    (universal-says (c7 .set-properties .ensures) (c3 .if3 .left)))
+    (universal-says (c5 .set-properties2 .ensures) (c .before .before .if4 .left))) (less-says (lt-ltb _ _ (c .before .if5 .taken))))
     (c .recall .ensures))
     (λ c κs. search needs)
     (λ c.
@@ -57,7 +55,7 @@ xor-tests-spec =
     let c6 = c5 .before in
     let c7 = c6 .before in
     answer-recalled 2 _ _ _ (xor-memo _ _ _) (no (no
-    (no (no (no begin (empty-says (c7 .properties .ensures set refl) (c6 .if1 .left))) (empty-says (c5 .properties2 .ensures set refl) (c4 .if2 .left)))
-    (universal-says (c7 .properties .ensures set refl) (c3 .if3 .left)))
-    (universal-says (c5 .properties2 .ensures set refl) (c .before .before .if4 .left))) (less-says (le-ltb _ _ (c .before .if5 .left))))
+    (no (no (no begin (empty-says (c7 .set-properties .ensures) (c6 .if1 .left))) (empty-says (c5 .set-properties2 .ensures) (c4 .if2 .left)))
+    (universal-says (c7 .set-properties .ensures) (c3 .if3 .left)))
+    (universal-says (c5 .set-properties2 .ensures) (c .before .before .if4 .left))) (less-says (le-ltb _ _ (c .before .if5 .left))))
     (c .recall2 .ensures)))

@@ -1,9 +1,8 @@
 -- `image_tests` knows what the properties and the memo say of an image.
-use mathlib.Core.Path.{refl, sym, ap}
+use mathlib.Core.Path.{sym, ap}
 use borrow.Author.Needs.{needs}
 use borrow.Author.Tests.{lt-ltb, le-ltb}
 use Rattle.nodes.specs.Programs.{ret}
-use Rattle.nodes.specs.Store.{set, rel}
 use Rattle.memory.proofs.Beside.{empty-beside, universal-beside, identity-beside}
 use Rattle.memory.proofs.Remembering.{recalled}
 use Rattle.memory.proofs.Steps.{begin, by, yes, no, less-says, empty-says, universal-says}
@@ -20,7 +19,7 @@ image-tests-spec =
     (λ c j whole node e.
     record {
       stands = yes (no begin (less-says (le-ltb _ 2 (c .before .before .if1 .left))))
-          (empty-says (c .before .properties .ensures set refl) (c .if2 .taken));
+          (empty-says (c .before .set-properties .ensures) (c .if2 .taken));
     })
     (λ c κs. search needs)
     (λ c j whole node e.
@@ -28,17 +27,17 @@ image-tests-spec =
     let c4 = c3 .before in
     record {
       stands = yes (no (no begin (less-says (le-ltb _ 2 (c4 .if1 .left))))
-          (empty-says (c3 .properties .ensures set refl) (c .before .before .if2 .left)))
-          (identity-beside (c .before .properties2 .ensures rel refl) (c .if3 .taken));
+          (empty-says (c3 .set-properties .ensures) (c .before .before .if2 .left)))
+          (identity-beside (c .before .relation-properties .ensures) (c .if3 .taken));
     })
     (λ c j whole node e.
     let c3 = c .before .before .before in
     let c4 = c3 .before in
     let c5 = c4 .before in
     record {
-      stands = yes (no (no (no begin (less-says (le-ltb _ 2 (c5 .if1 .left)))) (empty-says (c4 .properties .ensures set refl) (c3 .if2 .left)))
-          (identity-beside (c .before .before .properties2 .ensures rel refl) (c .before .if3 .left)))
-          (empty-beside (c .before .before .properties2 .ensures rel refl) (c .if4 .taken));
+      stands = yes (no (no (no begin (less-says (le-ltb _ 2 (c5 .if1 .left)))) (empty-says (c4 .set-properties .ensures) (c3 .if2 .left)))
+          (identity-beside (c .before .before .relation-properties .ensures) (c .before .if3 .left)))
+          (empty-beside (c .before .before .relation-properties .ensures) (c .if4 .taken));
     })
     (λ c j whole node e.
     let c3 = c .before .before .before in
@@ -47,10 +46,10 @@ image-tests-spec =
     let c6 = c5 .before in
     record {
       stands = yes (no (no (no (no begin (less-says (le-ltb _ 2 (c6 .if1 .left))))
-          (empty-says (c5 .properties .ensures set refl) (c4 .if2 .left)))
-          (identity-beside (c3 .properties2 .ensures rel refl) (c .before .before .if3 .left)))
-          (empty-beside (c3 .properties2 .ensures rel refl) (c .before .if4 .left)))
-          (universal-beside (c3 .properties2 .ensures rel refl) (c .if5 .taken));
+          (empty-says (c5 .set-properties .ensures) (c4 .if2 .left)))
+          (identity-beside (c3 .relation-properties .ensures) (c .before .before .if3 .left)))
+          (empty-beside (c3 .relation-properties .ensures) (c .before .if4 .left)))
+          (universal-beside (c3 .relation-properties .ensures) (c .if5 .taken));
     })
     (λ c j whole node e.
     let c3 = c .before .before .before in
@@ -60,10 +59,10 @@ image-tests-spec =
     let c7 = c6 .before in
     record {
       stands = yes (no (no (no (no (no begin (less-says (le-ltb _ 2 (c7 .if1 .left))))
-          (empty-says (c6 .properties .ensures set refl) (c5 .if2 .left))) (identity-beside (c4 .properties2 .ensures rel refl) (c3 .if3 .left)))
-          (empty-beside (c4 .properties2 .ensures rel refl) (c .before .before .if4 .left)))
-          (universal-beside (c4 .properties2 .ensures rel refl) (c .before .if5 .left)))
-          (universal-says (c6 .properties .ensures set refl) (c .if6 .taken));
+          (empty-says (c6 .set-properties .ensures) (c5 .if2 .left))) (identity-beside (c4 .relation-properties .ensures) (c3 .if3 .left)))
+          (empty-beside (c4 .relation-properties .ensures) (c .before .before .if4 .left)))
+          (universal-beside (c4 .relation-properties .ensures) (c .before .if5 .left)))
+          (universal-says (c6 .set-properties .ensures) (c .if6 .taken));
     })
     (λ c κs. search needs)
     (λ c. search needs)
@@ -79,9 +78,9 @@ image-tests-spec =
     let c11 = c10 .before in
     record {
       stands = recalled _ _ _ _ e (no
-          (no (no (no (no (no begin (less-says (le-ltb _ 2 (c11 .if1 .left)))) (empty-says (c10 .properties .ensures set refl) (c9 .if2 .left)))
-          (identity-beside (c8 .properties2 .ensures rel refl) (c7 .if3 .left))) (empty-beside (c8 .properties2 .ensures rel refl) (c6 .if4 .left)))
-          (universal-beside (c8 .properties2 .ensures rel refl) (c5 .if5 .left))) (universal-says (c10 .properties .ensures set refl) (c4 .if6 .left)))
+          (no (no (no (no (no begin (less-says (le-ltb _ 2 (c11 .if1 .left)))) (empty-says (c10 .set-properties .ensures) (c9 .if2 .left)))
+          (identity-beside (c8 .relation-properties .ensures) (c7 .if3 .left))) (empty-beside (c8 .relation-properties .ensures) (c6 .if4 .left)))
+          (universal-beside (c8 .relation-properties .ensures) (c5 .if5 .left))) (universal-says (c10 .set-properties .ensures) (c4 .if6 .left)))
           (c3 .recall .ensures) (c .before .found .given .1);
     })
     (λ c. search needs)
@@ -96,7 +95,7 @@ image-tests-spec =
     let c10 = c9 .before in
     record {
       stands = no (no (no (no (no (no begin (less-says (le-ltb _ 2 (c10 .if1 .left))))
-          (empty-says (c9 .properties .ensures set refl) (c8 .if2 .left))) (identity-beside (c7 .properties2 .ensures rel refl) (c6 .if3 .left)))
-          (empty-beside (c7 .properties2 .ensures rel refl) (c5 .if4 .left))) (universal-beside (c7 .properties2 .ensures rel refl) (c4 .if5 .left)))
-          (universal-says (c9 .properties .ensures set refl) (c3 .if6 .left));
+          (empty-says (c9 .set-properties .ensures) (c8 .if2 .left))) (identity-beside (c7 .relation-properties .ensures) (c6 .if3 .left)))
+          (empty-beside (c7 .relation-properties .ensures) (c5 .if4 .left))) (universal-beside (c7 .relation-properties .ensures) (c4 .if5 .left)))
+          (universal-says (c9 .set-properties .ensures) (c3 .if6 .left));
     }))

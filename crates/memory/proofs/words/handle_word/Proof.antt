@@ -18,7 +18,7 @@ placed : (K : Kind) (S : Store) (ws : List ℕ) (h i : ℕ) → i ≡ index K h 
 placed K S ws h i e b W = rw (← e) (known-at K S ws i W b)
 
 returns : tie.Need-returns
-returns c = λ K k S e F W. known-constant K S _ _ (c .before .if1 .taken) (c .word-of .ensures)
+returns c = λ K k S e F W. known-constant K S _ _ (c .before .if1 .taken) (λ p. c .constant-word .ensures)
 
 returns-2 : tie.Need-returns-2
 returns-2 c = λ K k S e F W. known-nothing _ (omega arith)

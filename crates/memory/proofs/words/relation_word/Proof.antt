@@ -33,30 +33,25 @@ returns-5 c =
     let c8 = c7 .before in
     let c9 = c8 .before in
     let c11 = c9 .before .before in
-    let c13 = c11 .before .before in
-    let c15 = c13 .before .before in
-    let c17 = c15 .before .before in
-    let c21 = c17 .before .before .before .before in
-    let a = c21 .args in
-    relation-gathers (WordsOf rel (a .words .now)) (a .x .now) (c17 .handle-word .result) (c15 .handle-word2 .result) (c13 .handle-word3 .result)
+    let c12 = c11 .before in
+    let c13 = c12 .before in
+    let c14 = c13 .before in
+    let c16 = c14 .before .before in
+    relation-gathers (WordsOf rel (c16 .args .words .now)) _ (c14 .handle-word .result) (c13 .handle-word2 .result) (c12 .handle-word3 .result)
     (c11 .handle-word4 .result) _
-    (λ k S F W. c17 .handle-word .ensures rel k S refl F W) (λ k S F W. c15 .handle-word2 .ensures rel k S refl F W)
-    (λ k S F W. c13 .handle-word3 .ensures rel k S refl F W) (λ k S F W. c11 .handle-word4 .ensures rel k S refl F W)
+    (λ k S F W. c14 .handle-word .ensures rel k S refl F W) (λ k S F W. c13 .handle-word2 .ensures rel k S refl F W)
+    (λ k S F W. c12 .handle-word3 .ensures rel k S refl F W) (λ k S F W. c11 .handle-word4 .ensures rel k S refl F W)
     (omega arith) (c9 .if2 .left) (c8 .if3 .left) (c7 .if4 .left)
-    (λ p. c .word-of .ensures p ∙ relation-properties (c3 .both .ensures) (c .before .before .both2 .ensures) (c .before .both3 .ensures)
+    (λ p. c .word-of .ensures .0 p ∙ relation-properties (c3 .both .ensures) (c .before .before .both2 .ensures) (c .before .both3 .ensures)
     (c6 .shared .ensures) (c5 .shared2 .ensures))
 
 pub relation-word-spec : {M : Type 1} → statement M
 relation-word-spec =
     tie.close
     (tie.spec
-    (λ c. search needs)
     (λ c κs. search needs)
-    (λ c. search needs)
     (λ c κs. search needs)
-    (λ c. search needs)
     (λ c κs. search needs)
-    (λ c. search needs)
     (λ c κs. search needs)
     returns
     returns-2

@@ -4,9 +4,9 @@ use mathlib.Core.Bool.{false}
 use Prim.Native.Nat.{_+_}
 use native.Mathlib.Omega.{arith}
 use Rattle.nodes.specs.Store.{set}
-use Rattle.memory.specs.Noting.{WordsOf}
+use Rattle.memory.specs.Noting.{WordsOf, properties}
 use Rattle.memory.specs.declared.Properties.{Properties}
-use Rattle.memory.proofs.Known.{properties, gathers-nothing, set-gathers}
+use Rattle.memory.proofs.Known.{gathers-nothing, set-gathers}
 use borrow.Author.Needs.{needs}
 use Rattle.memory.proofs.words.set_word.Statement.{statement}
 use Rattle.memory.proofs.words.set_word.Tie as tie
@@ -29,7 +29,7 @@ returns-3 c =
     let a = c11 .args in
     set-gathers (WordsOf set (a .words .now)) (a .x .now) (c7 .handle-word .result) (c5 .handle-word2 .result) _
     (λ k S F W. c7 .handle-word .ensures set k S refl F W) (λ k S F W. c5 .handle-word2 .ensures set k S refl F W) (omega arith) (c3 .if2 .left)
-    (λ p. c .word-of .ensures p ∙ ap (λ (r : Properties). properties (r .empty) (r .universal) false (r .level + 1))
+    (λ p. c .word-of .ensures .0 p ∙ ap (λ (r : Properties). properties (r .empty) (r .universal) false (r .level + 1))
     (c .before .before .shared .ensures))
 
 pub set-word-spec : {M : Type 1} → statement M

@@ -31,7 +31,7 @@ small : {r : Properties} {e u i : ℕ} → Bits r e u i → (e ≤ 1) × (u ≤ 
 small {r} b = (omega (arith, b .empty, low (r .empty) 1), omega (arith, b .universal, low (r .universal) 2), omega (arith, b .identity, low (r .identity) 4))
 
 returns : tie.Need-returns
-returns c = λ p. absurd (omega arith)
+returns c = (λ p. absurd (omega arith), λ q. absurd (omega arith))
 
 add-result-2 : tie.Need-add-result-2
 add-result-2 c = omega (arith, small (bits (c .before .before)))
@@ -44,8 +44,8 @@ add-result-4 c = omega (arith, small (bits (c .before .before .before .before)))
 
 returns-2 : tie.Need-returns-2
 returns-2 c =
-    let c4 = c .before .before .before .before in
-    λ p. let b = bits (c4) in word-bits _ _ _ _ _ (rw (← b .empty, ← b .universal, ← b .identity))
+    let b = bits (c .before .before .before .before) in
+    (λ p. word-bits _ _ _ _ _ (rw (← b .empty, ← b .universal, ← b .identity)), λ q. omega arith)
 
 pub word-of-spec : {M : Type 1} → statement M
 word-of-spec =

@@ -1,5 +1,6 @@
 -- One call, its answer packed.
 use borrow.Author.Needs.{needs}
+use Rattle.store.specs.Calls.{step}
 use Rattle.packet_store.proofs.Answering.{answers}
 use Rattle.packet_store.proofs.creation.packet_store_new.Statement.{statement}
 use Rattle.packet_store.proofs.creation.packet_store_new.Tie as tie
@@ -20,6 +21,7 @@ same-length-3 : tie.Need-same-length-3
 same-length-3 c = search needs
 
 returns : tie.Need-returns
+unfolding step
 returns c = answers _ _ _ _ _ _ _ (c .before .before .before .before .before .before .before .new .ensures) (c .pack .ensures)
 
 pub packet-store-new-spec : {M : Type 1} → statement M

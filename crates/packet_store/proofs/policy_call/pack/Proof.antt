@@ -3,8 +3,8 @@ use mathlib.Core.Path.{sym, ap, _∙_, subst}
 use Prim.Native.Nat.{_≤_}
 use borrow.Author.Needs.{needs}
 use Rattle.policies.specs.declared.PolicyAnswer.{PolicyAnswer}
-use Rattle.packet_store.specs.Packed.{offset, packed-policy}
-use Rattle.packet_store.proofs.Answering.{low}
+use Rattle.packet_store.specs.Exported.{offset, packed-policy}
+use Rattle.packing.proofs.Halves.{low}
 use Rattle.packet_store.proofs.policy_call.pack.Statement.{statement}
 use Rattle.packet_store.proofs.policy_call.pack.Tie as tie
 

@@ -1,7 +1,5 @@
 -- `difference_tests` knows what the properties and the memo say of a difference.
-use mathlib.Core.Path.{refl}
 use borrow.Author.Needs.{needs}
-use Rattle.nodes.specs.Store.{rel}
 use Rattle.memory.proofs.Steps.{begin, yes, no, empty-says, universal-says}
 use Rattle.memory.proofs.Remembering.{answer-recalled}
 use Rattle.relations.proofs.Opened.{difference-memo}
@@ -14,17 +12,18 @@ difference-tests-spec =
     tie.close
     (tie.spec
     (λ c κs. search needs)
+    (λ c. way-answer (yes begin (empty-says (c .before .relation-properties .ensures) (c .if1 .taken))))
     (λ c κs. search needs)
-    (λ c. way-answer (yes begin (empty-says (c .before .before .properties .ensures rel refl) (c .if1 .taken))))
     (λ c.
     let c3 = c .before .before .before in
-    way-answer (yes (no begin (empty-says (c3 .properties .ensures rel refl) (c .before .if1 .left)))
-    (empty-says (c .before .before .properties2 .ensures rel refl) (c .if2 .taken))))
+    way-answer (yes (no begin (empty-says (c3 .relation-properties .ensures) (c .before .before .if1 .left)))
+    (empty-says (c .before .relation-properties2 .ensures) (c .if2 .taken))))
     (λ c.
     let c3 = c .before .before .before in
     let c4 = c3 .before in
-    way-other (yes (no (no begin (empty-says (c4 .properties .ensures rel refl) (c .before .before .if1 .left)))
-    (empty-says (c3 .properties2 .ensures rel refl) (c .before .if2 .left))) (universal-says (c4 .properties .ensures rel refl) (c .if3 .taken))))
+    way-other (yes (no (no begin (empty-says (c4 .relation-properties .ensures) (c3 .if1 .left)))
+    (empty-says (c .before .before .relation-properties2 .ensures) (c .before .if2 .left)))
+    (universal-says (c4 .relation-properties .ensures) (c .if3 .taken))))
     (λ c κs. search needs)
     (λ c κs. search needs)
     (λ c.
@@ -32,6 +31,7 @@ difference-tests-spec =
     let c4 = c3 .before in
     let c5 = c4 .before in
     let c6 = c5 .before in
-    way-found (no (no (no begin (empty-says (c6 .properties .ensures rel refl) (c4 .if1 .left)))
-    (empty-says (c5 .properties2 .ensures rel refl) (c3 .if2 .left))) (universal-says (c6 .properties .ensures rel refl) (c .before .before .if3 .left)))
+    way-found (no (no (no begin (empty-says (c6 .relation-properties .ensures) (c5 .if1 .left)))
+    (empty-says (c4 .relation-properties2 .ensures) (c3 .if2 .left)))
+    (universal-says (c6 .relation-properties .ensures) (c .before .before .if3 .left)))
     (answer-recalled 7 _ _ _ (difference-memo _ _ _) begin (c .before .recall .ensures)) (c .way-of .ensures)))

@@ -1,7 +1,5 @@
 -- `xor_tests` knows what the properties and the memo say of a symmetric difference.
-use mathlib.Core.Path.{refl}
 use borrow.Author.Needs.{needs}
-use Rattle.nodes.specs.Store.{rel}
 use Rattle.memory.proofs.Steps.{begin, yes, no, empty-says, universal-says}
 use Rattle.relations.proofs.Opened.{xor-memo}
 use Rattle.relations.proofs.Ways.{way-answer, way-other, way-found}
@@ -13,24 +11,25 @@ xor-tests-spec =
     tie.close
     (tie.spec
     (λ c κs. search needs)
+    (λ c. way-answer (yes begin (empty-says (c .before .relation-properties .ensures) (c .if1 .taken))))
     (λ c κs. search needs)
-    (λ c. way-answer (yes begin (empty-says (c .before .before .properties .ensures rel refl) (c .if1 .taken))))
     (λ c.
     let c3 = c .before .before .before in
-    way-answer (yes (no begin (empty-says (c3 .properties .ensures rel refl) (c .before .if1 .left)))
-    (empty-says (c .before .before .properties2 .ensures rel refl) (c .if2 .taken))))
+    way-answer (yes (no begin (empty-says (c3 .relation-properties .ensures) (c .before .before .if1 .left)))
+    (empty-says (c .before .relation-properties2 .ensures) (c .if2 .taken))))
     (λ c.
     let c3 = c .before .before .before in
     let c4 = c3 .before in
-    way-other (yes (no (no begin (empty-says (c4 .properties .ensures rel refl) (c .before .before .if1 .left)))
-    (empty-says (c3 .properties2 .ensures rel refl) (c .before .if2 .left))) (universal-says (c4 .properties .ensures rel refl) (c .if3 .taken))))
+    way-other (yes (no (no begin (empty-says (c4 .relation-properties .ensures) (c3 .if1 .left)))
+    (empty-says (c .before .before .relation-properties2 .ensures) (c .before .if2 .left)))
+    (universal-says (c4 .relation-properties .ensures) (c .if3 .taken))))
     (λ c.
     let c3 = c .before .before .before in
     let c4 = c3 .before in
     let c5 = c4 .before in
-    way-other (yes (no (no (no begin (empty-says (c5 .properties .ensures rel refl) (c3 .if1 .left)))
-    (empty-says (c4 .properties2 .ensures rel refl) (c .before .before .if2 .left)))
-    (universal-says (c5 .properties .ensures rel refl) (c .before .if3 .left))) (universal-says (c4 .properties2 .ensures rel refl) (c .if4 .taken))))
+    way-other (yes (no (no (no begin (empty-says (c5 .relation-properties .ensures) (c4 .if1 .left)))
+    (empty-says (c3 .relation-properties2 .ensures) (c .before .before .if2 .left)))
+    (universal-says (c5 .relation-properties .ensures) (c .before .if3 .left))) (universal-says (c3 .relation-properties2 .ensures) (c .if4 .taken))))
     (λ c κs. search needs)
     (λ c κs. search needs)
     (λ c.
@@ -39,6 +38,7 @@ xor-tests-spec =
     let c5 = c4 .before in
     let c6 = c5 .before in
     let c7 = c6 .before in
-    way-found (no (no (no (no begin (empty-says (c7 .properties .ensures rel refl) (c5 .if1 .left)))
-    (empty-says (c6 .properties2 .ensures rel refl) (c4 .if2 .left))) (universal-says (c7 .properties .ensures rel refl) (c3 .if3 .left)))
-    (universal-says (c6 .properties2 .ensures rel refl) (c .before .before .if4 .left))) (c .before .ordered .ensures _ _ (xor-memo _)) (c .way-of .ensures)))
+    way-found (no (no (no (no begin (empty-says (c7 .relation-properties .ensures) (c6 .if1 .left)))
+    (empty-says (c5 .relation-properties2 .ensures) (c4 .if2 .left))) (universal-says (c7 .relation-properties .ensures) (c3 .if3 .left)))
+    (universal-says (c5 .relation-properties2 .ensures) (c .before .before .if4 .left))) (c .before .ordered .ensures _ _ (xor-memo _))
+    (c .way-of .ensures)))

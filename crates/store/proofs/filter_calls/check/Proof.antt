@@ -4,9 +4,9 @@ use mathlib.Core.List.{List}
 use Prim.Native.Nat.{ℕ}
 use borrow.Author.Needs.{needs}
 use Rattle.nodes.specs.Store.{set}
-use Rattle.store.specs.Checking.{Checks}
+use Rattle.outcomes.specs.Checking.{Checks}
 use Rattle.store.specs.ImageCalls.{filter-declines}
-use Rattle.store.specs.declared.Check.{Check}
+use Rattle.outcomes.specs.declared.Check.{Check}
 use Rattle.store.specs.declared.filter_calls.FilterCall.{FilterCall}
 use Rattle.store.proofs.filter_calls.check.Statement.{statement}
 use Rattle.store.proofs.filter_calls.check.Tie as tie

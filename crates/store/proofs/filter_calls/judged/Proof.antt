@@ -6,7 +6,7 @@ use Rattle.nodes.specs.Store.{set, rel}
 use Rattle.judging.specs.Memory.{memories}
 use Rattle.store.proofs.CallSteps.{adding-declined, adding-low, adding-within, adding-ran}
 use Rattle.store.proofs.ImageSteps.{filter-adding}
-use Rattle.store.proofs.Running.{checked-here, beside-here}
+use Rattle.outcomes.proofs.Running.{checked-here, beside-here}
 use Rattle.store.proofs.filter_calls.judged.Statement.{statement}
 use Rattle.store.proofs.filter_calls.judged.Tie as tie
 

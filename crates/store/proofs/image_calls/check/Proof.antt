@@ -4,11 +4,11 @@ use mathlib.Core.List.{List}
 use Prim.Native.Nat.{ℕ}
 use borrow.Author.Needs.{needs}
 use Rattle.nodes.specs.Store.{rel}
-use Rattle.store.specs.Checking.{ChecksBoth}
+use Rattle.outcomes.specs.Checking.{ChecksBoth}
 use Rattle.store.specs.ImageCalls.{image-declines}
-use Rattle.store.specs.declared.Check.{Check}
+use Rattle.outcomes.specs.declared.Check.{Check}
 use Rattle.store.specs.declared.image_calls.ImageCall.{ImageCall}
-use Rattle.store.proofs.TwoKinds.{checks-relations}
+use Rattle.outcomes.proofs.TwoKinds.{checks-relations}
 use Rattle.store.proofs.image_calls.check.Statement.{statement}
 use Rattle.store.proofs.image_calls.check.Tie as tie
 

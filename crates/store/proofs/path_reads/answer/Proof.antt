@@ -6,10 +6,10 @@ use borrow.Author.Needs.{needs}
 use Rattle.nodes.specs.Store.{set}
 use Rattle.nodes.proofs.ReadOnly.{has-image-read-only, has-path-read-only}
 use Rattle.memory.specs.Arena.{Condition}
-use Rattle.store.specs.Checking.{AnsweredOn}
+use Rattle.outcomes.specs.Checking.{AnsweredOn}
 use Rattle.store.specs.ImageCalls.{path-answer}
 use Rattle.store.specs.ImageChecking.{PathSafe}
-use Rattle.store.specs.declared.Answer.{Answer}
+use Rattle.outcomes.specs.declared.Answer.{Answer}
 use Rattle.store.specs.declared.path_reads.PathRead.{PathRead}
 use Rattle.store.proofs.Reading.{reads-truth}
 use Rattle.store.proofs.path_reads.answer.Statement.{statement}

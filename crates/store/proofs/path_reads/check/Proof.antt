@@ -3,9 +3,9 @@ use mathlib.Core.Path.{_≡_, sym, subst}
 use mathlib.Core.List.{List}
 use Prim.Native.Nat.{ℕ}
 use borrow.Author.Needs.{needs}
-use Rattle.store.specs.Checking.{ChecksBoth}
+use Rattle.outcomes.specs.Checking.{ChecksBoth}
 use Rattle.store.specs.ImageCalls.{path-declines}
-use Rattle.store.specs.declared.Check.{Check}
+use Rattle.outcomes.specs.declared.Check.{Check}
 use Rattle.store.specs.declared.path_reads.PathRead.{PathRead}
 use Rattle.store.proofs.path_reads.check.Statement.{statement}
 use Rattle.store.proofs.path_reads.check.Tie as tie

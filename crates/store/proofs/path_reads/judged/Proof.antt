@@ -5,7 +5,7 @@ use Rattle.nodes.specs.Store.{set, rel}
 use Rattle.judging.specs.Memory.{memories}
 use Rattle.store.proofs.CallSteps.{reading-declined, reading-low, reading-told}
 use Rattle.store.proofs.ImageSteps.{path-reading}
-use Rattle.store.proofs.Running.{both-here, beside-here}
+use Rattle.outcomes.proofs.Running.{both-here, beside-here}
 use Rattle.store.proofs.path_reads.judged.Statement.{statement}
 use Rattle.store.proofs.path_reads.judged.Tie as tie
 

@@ -4,7 +4,7 @@ use lib.ListN.{replicate}
 use borrow.Author.Needs.{needs}
 use borrow.Author.Tests.{not-true, not-false}
 use Rattle.store.proofs.CallSteps.{reading-no-store}
-use Rattle.store.proofs.Running.{judged-ready}
+use Rattle.outcomes.proofs.Running.{judged-ready}
 use Rattle.store.proofs.ImageSteps.{path-reading}
 use Rattle.store.proofs.path_reads.path_read.Statement.{statement}
 use Rattle.store.proofs.path_reads.path_read.Tie as tie

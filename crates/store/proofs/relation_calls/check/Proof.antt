@@ -5,9 +5,9 @@ use Prim.Native.Nat.{ℕ}
 use native.Mathlib.Omega.{arith}
 use borrow.Author.Needs.{needs}
 use Rattle.nodes.specs.Store.{rel}
-use Rattle.store.specs.Checking.{Checks}
+use Rattle.outcomes.specs.Checking.{Checks}
 use Rattle.store.specs.RelationCalls.{relation-declines}
-use Rattle.store.specs.declared.Check.{Check}
+use Rattle.outcomes.specs.declared.Check.{Check}
 use Rattle.store.specs.declared.relation_calls.RelationCall.{RelationCall}
 use Rattle.store.proofs.relation_calls.check.Statement.{statement}
 use Rattle.store.proofs.relation_calls.check.Tie as tie

@@ -4,7 +4,7 @@ use borrow.Author.Needs.{needs}
 use Rattle.nodes.specs.Store.{rel}
 use Rattle.judging.specs.Memory.{memories}
 use Rattle.store.proofs.CallSteps.{adding-declined, adding-goes, adding-low, adding-within, adding-ran}
-use Rattle.store.proofs.Running.{checked-here}
+use Rattle.outcomes.proofs.Running.{checked-here}
 use Rattle.store.proofs.RelationSteps.{relation-adding}
 use Rattle.store.proofs.RelationMeant.{relation-field-small}
 use Rattle.store.proofs.relation_calls.judged.Statement.{statement}

@@ -6,11 +6,11 @@ use borrow.Author.Needs.{needs}
 use Rattle.nodes.specs.Recursion.{x00, x01, x10, x11}
 use Rattle.nodes.specs.Store.{rel}
 use Rattle.nodes.proofs.ReadOnly.{is-zero-read-only}
-use Rattle.store.specs.Checking.{Answered}
+use Rattle.outcomes.specs.Checking.{Answered}
 use Rattle.store.specs.RelationCalls.{relation-read-answer}
 use Rattle.store.specs.RelationChecking.{RelationReadSafe}
-use Rattle.store.specs.declared.Answer.{Answer}
-use Rattle.store.specs.declared.Answer.the-variants.{Truth, RelationNode}
+use Rattle.outcomes.specs.declared.Answer.{Answer}
+use Rattle.outcomes.specs.declared.Answer.the-variants.{Truth, RelationNode}
 use Rattle.store.specs.declared.relation_reads.RelationRead.{RelationRead}
 use Rattle.store.proofs.Reading.{reads-truth, reads-node}
 use Rattle.store.proofs.relation_reads.answer.Statement.{statement}

@@ -4,9 +4,9 @@ use mathlib.Core.List.{List}
 use Prim.Native.Nat.{ℕ}
 use borrow.Author.Needs.{needs}
 use Rattle.nodes.specs.Store.{rel}
-use Rattle.store.specs.Checking.{Checks}
+use Rattle.outcomes.specs.Checking.{Checks}
 use Rattle.store.specs.RelationCalls.{relation-read-declines}
-use Rattle.store.specs.declared.Check.{Check}
+use Rattle.outcomes.specs.declared.Check.{Check}
 use Rattle.store.specs.declared.relation_reads.RelationRead.{RelationRead}
 use Rattle.store.proofs.relation_reads.check.Statement.{statement}
 use Rattle.store.proofs.relation_reads.check.Tie as tie

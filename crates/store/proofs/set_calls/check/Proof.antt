@@ -6,8 +6,8 @@ use native.Mathlib.Omega.{arith}
 use borrow.Author.Needs.{needs}
 use Rattle.nodes.specs.Store.{set}
 use Rattle.store.specs.SetCalls.{set-declines}
-use Rattle.store.specs.Checking.{Checks}
-use Rattle.store.specs.declared.Check.{Check}
+use Rattle.outcomes.specs.Checking.{Checks}
+use Rattle.outcomes.specs.declared.Check.{Check}
 use Rattle.store.specs.declared.set_calls.SetCall.{SetCall}
 use Rattle.store.proofs.set_calls.check.Statement.{statement}
 use Rattle.store.proofs.set_calls.check.Tie as tie

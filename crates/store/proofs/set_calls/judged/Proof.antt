@@ -4,7 +4,7 @@ use borrow.Author.Needs.{needs}
 use Rattle.nodes.specs.Store.{set, rel}
 use Rattle.judging.specs.Memory.{memories}
 use Rattle.store.proofs.CallSteps.{adding-declined, adding-goes, adding-low, adding-within, adding-ran}
-use Rattle.store.proofs.Running.{checked-here}
+use Rattle.outcomes.proofs.Running.{checked-here}
 use Rattle.store.proofs.SetSteps.{set-adding}
 use Rattle.store.proofs.SetMeant.{set-field-small}
 use Rattle.store.proofs.set_calls.judged.Statement.{statement}

@@ -6,11 +6,11 @@ use borrow.Author.Needs.{needs}
 use Rattle.nodes.specs.Recursion.{x0, x1}
 use Rattle.nodes.specs.Store.{set}
 use Rattle.nodes.proofs.ReadOnly.{is-zero-read-only, intersects-read-only}
-use Rattle.store.specs.Checking.{Answered}
+use Rattle.outcomes.specs.Checking.{Answered}
 use Rattle.store.specs.SetCalls.{set-read-answer}
 use Rattle.store.specs.SetChecking.{SetReadSafe}
-use Rattle.store.specs.declared.Answer.{Answer}
-use Rattle.store.specs.declared.Answer.the-variants.{Handle, SetNode}
+use Rattle.outcomes.specs.declared.Answer.{Answer}
+use Rattle.outcomes.specs.declared.Answer.the-variants.{Handle, SetNode}
 use Rattle.store.specs.declared.set_reads.SetRead.{SetRead}
 use Rattle.store.proofs.Reading.{reads-truth, reads-node, reads-number}
 use Rattle.store.proofs.set_reads.answer.Statement.{statement}

@@ -5,8 +5,8 @@ use Prim.Native.Nat.{ℕ}
 use borrow.Author.Needs.{needs}
 use Rattle.nodes.specs.Store.{set}
 use Rattle.store.specs.SetCalls.{set-read-declines}
-use Rattle.store.specs.Checking.{Checks}
-use Rattle.store.specs.declared.Check.{Check}
+use Rattle.outcomes.specs.Checking.{Checks}
+use Rattle.outcomes.specs.declared.Check.{Check}
 use Rattle.store.specs.declared.set_reads.SetRead.{SetRead}
 use Rattle.store.proofs.set_reads.check.Statement.{statement}
 use Rattle.store.proofs.set_reads.check.Tie as tie

@@ -1,0 +1,51 @@
+-- What the build pass does: a part of the text that follows the grammar is read up to its end, and its policy's program is run.
+use mathlib.Core.Path.{_≡_}
+use mathlib.Core.List.{List, _∷_, _++_}
+use Prim.Native.Nat.{ℕ, _≤_}
+use lib.ListN.{length, getD, drop}
+use Rattle.nodes.specs.Store.{rel}
+use Rattle.nodes.specs.Policies.{Policy, policy-program}
+use Rattle.memory.specs.Arena.{Performs}
+use Rattle.memory.specs.declared.Arena.{Arena}
+use Rattle.texts.specs.Grammar.{Atom, Sum}
+use Rattle.building.specs.declared.Built.{Built}
+
+abbrev pub built : Arena → ℕ → Built
+built s e = record { made = s; end = e }
+
+-- a rank of the grammar: which bytes are such a part, and of which policy
+abbrev pub Rank : Type 1
+Rank = ℕ → List ℕ → Policy → Type 0
+
+-- a test or an assignment, after its `x`
+abbrev pub Named : Rank
+Named d u p = Atom d (120 ∷ u) p
+
+-- the bytes that may stand after a part, which is not gone on with by them
+abbrev pub after-atom : ℕ → Type 0
+after-atom b = Unit {0}
+
+abbrev pub after-starred : ℕ → Type 0
+after-starred b = ¬ (b ≡ 42)
+
+abbrev pub after-product : ℕ → Type 0
+after-product b = (¬ (b ≡ 42)) × (¬ (b ≡ 59))
+
+abbrev pub after-sum : ℕ → Type 0
+after-sum b = (¬ (b ≡ 42)) × (¬ (b ≡ 59)) × (¬ (b ≡ 43))
+
+-- the text was read up to rest, and p's program run
+pub record BuildsPart (k : ℕ) (t : List ℕ) (p : Policy) (rest : List ℕ) (s : Arena) (m m′ w w′ : List ℕ) (r : Built) : Type 0 where
+  pub stands : drop (r .end) t ≡ rest
+  pub performs : Performs rel (policy-program k p) s m m′ w w′ (r .made)
+
+-- so it is for every part of the rank that begins at this offset
+pub record Builds (G : Rank) (After : ℕ → Type 0) (k : ℕ) (t : List ℕ) (at : ℕ) (s : Arena) (m m′ w w′ : List ℕ) (r : Built) : Type 0 where
+  pub from : at ≤ r .end
+  pub within : r .end ≤ length t
+  pub part : (d : ℕ) (u : List ℕ) (p : Policy) (rest : List ℕ) → G d u p → drop at t ≡ u ++ rest → After (getD rest 0 0)
+      → BuildsPart k t p rest s m m′ w w′ r
+
+-- a whole text: whatever policy it is of, that policy's program is run
+pub record BuildsText (k : ℕ) (t : List ℕ) (s : Arena) (m m′ w w′ : List ℕ) (r : Arena) : Type 0 where
+  pub builds : (d : ℕ) (p : Policy) → Sum d t p → Performs rel (policy-program k p) s m m′ w w′ r

@@ -1,0 +1,16 @@
+pub mod CallMeans
+pub mod ReadMeans
+pub mod ImageMeans
+pub mod Matching
+pub mod OneCall
+pub mod AnyStore
+pub mod Inverse
+pub mod NewMatches
+pub mod InTurn
+pub mod Lists
+pub mod WrongLists
+pub mod KeptTexts
+pub mod OneText
+pub mod AllCalls
+pub mod EveryList
+pub mod WrongTexts

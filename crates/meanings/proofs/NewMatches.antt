@@ -1,0 +1,49 @@
+-- An accepted `new` leaves memories that match the plain store as `new` begins it: from what it declines, and its counts.
+use mathlib.Core.Path.{_≡_, refl, sym, subst}
+use mathlib.Core.Bool.{Bool, true, false}
+use Prim.Native.Nat.{ℕ, _≤_}
+use lib.ListN.{length}
+use lib.Dec.{leb, T, leb→le}
+use Rattle.nodes.specs.Images.{blank, new}
+use Rattle.nodes.specs.Places.{fits-places}
+use Rattle.nodes.specs.Programs.{Ran, run}
+use Rattle.nodes.specs.Store.{Kind, set, rel, pick}
+use Rattle.nodes.proofs.Bools.{and-T, by-test}
+use Rattle.nodes.proofs.New.{new-does}
+use Rattle.store.specs.Calls.{new-store, step}
+use Rattle.outcomes.specs.OnMemories.{set-places, rel-places, heads?, new-step}
+use Rattle.meanings.specs.Lists.{Matches}
+use Rattle.meanings.specs.PlainStore.{begun}
+use Rattle.judging.specs.Memory.{Memories, memory, head, encode}
+use Rattle.outcomes.specs.Outcome.{runs, provided, Told, told, concludes}
+use Rattle.outcomes.specs.declared.Answer.{Answer}
+use Rattle.outcomes.specs.declared.Answer.the-variants.{Handle, Declined}
+use Rattle.outcomes.specs.declared.Refusal.the-variants.{NotStore, OutOfRange, UsedUp}
+use Rattle.meanings.proofs.Matching.{matches-written}
+use Rattle.meanings.proofs.OneCall.{not-handle, fits-space}
+
+heads-there : (M : Memories) → heads? M ≡ true → (K : Kind) → head K ≤ length (memory K M)
+heads-there M e =
+    let u = and-T (leb 2 (length (M .relations))) (leb 1 (length (M .sets))) (subst T (sym e) tt) in
+    elim [ set ↦ leb→le 1 (length (M .sets)) (u .1) | rel ↦ leb→le 2 (length (M .relations)) (u .0) ]
+
+module _ (k : ℕ) (M : Memories) (h : ℕ) where
+  abbrev made : Ran
+  made = run (new k) blank
+
+  abbrev Begins : Told Answer Memories → Type 0
+  Begins t = t .answer ≡ Handle h → (t .answer ≡ Handle (made .value)) × Matches M (t .state) (begun k)
+
+  accepted : (b c : Bool) → leb k 32 ≡ b → heads? M ≡ c
+      → Begins (concludes (set-places M) (rel-places M) (provided OutOfRange b (provided NotStore c (runs (new k)))) blank M (λ S. encode k S M))
+  unfolding concludes provided
+  accepted false c few there = λ e. absurd (not-handle e)
+  accepted true false few there = λ e. absurd (not-handle e)
+  accepted true true few there = by-test (λ b. Begins (pick b (told (Handle (made .value)) (encode k (made .store) M)) (told (Declined UsedUp) M)))
+      (fits-places (set-places M) (rel-places M) (made .store))
+      (λ t e. (refl, matches-written (new-does k .after .formed) (fits-space (heads-there M there) t) (leb→le k 32 (subst T (sym few) tt))))
+      (λ t e. absurd (not-handle e))
+
+  pub new-matches : Begins (step (new-store k) M)
+  unfolding step new-step
+  new-matches = accepted (leb k 32) (heads? M) refl refl

@@ -1,0 +1,79 @@
+-- Two wrong versions of the claim about lists, refuted: a plain store that keeps the nodes of a call that gets 6, and handles that last
+-- though a `new` is accepted.
+use mathlib.Core.Path.{_≡_, refl, sym, ap, _∙_}
+use mathlib.Core.List.{List, [], _∷_, _++_}
+use Prim.Native.Nat.{ℕ, _<_}
+use native.Mathlib.Omega.{arith}
+use lib.Dec.{T}
+use lib.ListN.{replicate}
+use Rattle.nodes.specs.Images.{new}
+use Rattle.nodes.specs.Operations.{constant, identity-at-depth, raise, test}
+use Rattle.nodes.specs.Places.{fits-places}
+use Rattle.nodes.specs.Programs.{Prog, run}
+use Rattle.nodes.specs.Store.{set, rel, Store, child, pick, get, place, having, mk-store, mk-handle}
+use Rattle.nodes.specs.WellFormed.{Held}
+use Rattle.nodes.proofs.Bools.{by-test, on-bits}
+use Rattle.nodes.proofs.Bounded.{fits-places-iff}
+use Rattle.store.specs.Calls.{Call, new-store, set-call, step}
+use Rattle.outcomes.specs.OnMemories.{set-places, rel-places, new-step}
+use Rattle.meanings.specs.Lists.{in-turn, plain-steps, Matches, Lasts, store-calls, after-new}
+use Rattle.meanings.specs.PlainStore.{Plain, plain-store, on-lists, plain-step, begun}
+use Rattle.judging.specs.Memory.{Memories, memories, decode}
+use Rattle.outcomes.specs.Outcome.{Verdict, runs, provided, told, concludes}
+use Rattle.outcomes.specs.declared.Answer.the-variants.{Handle, Declined}
+use Rattle.outcomes.specs.declared.Refusal.the-variants.{UsedUp}
+use Rattle.store.specs.declared.set_calls.SetCall.the-variants.{Test}
+use Rattle.meanings.proofs.Lists.{list-right}
+use Rattle.meanings.proofs.Matching.{matches-space}
+use Rattle.meanings.proofs.OneCall.{not-handle}
+
+-- 01, "Plausible and wrong": "Keeping nodes of a call that ended in 6". The lists with that call's nodes match no memories
+pub kept-nodes : {M₀ M : Memories} (P : Plain) (v : ℕ → Store → Verdict) (p : Prog) → v (P .width) (P .lists) ≡ runs p
+    → on-lists (set-places M₀) (rel-places M₀) v P .answer ≡ Declined UsedUp → ¬ Matches M₀ M (plain-store (P .width) (run p (P .lists) .store))
+unfolding on-lists concludes
+kept-nodes {M₀} {M} P v p e q A =
+    let m = set-places M₀ in
+    let n = rel-places M₀ in
+    let S = run p (P .lists) .store in
+    let t : T (fits-places m n S) = fits-places-iff m n S .1 (matches-space A .within set, matches-space A .within rel) in
+    by-test (λ b. T b → pick b (told (Handle (run p (P .lists) .value)) (plain-store (P .width) S)) (told (Declined UsedUp) P) .answer ≡ Declined UsedUp → ⊥)
+    (fits-places m n S) (λ _ _ q. not-handle (sym q)) (λ _ t q. t) t (ap (λ u. concludes m n u (P .lists) P (plain-store (P .width)) .answer) (sym e) ∙ q)
+
+-- LASTING HANDLES. In a store of one field, a test of it and then another `new`: the test's handle 4 is held, and then not
+abbrev lent : Memories
+lent = memories (replicate 14 0) (replicate 5 0)
+
+abbrev tested : List Call
+tested = set-call (Test 0 1) ∷ []
+
+abbrev renewed : List Call
+renewed = new-store 1 ∷ []
+
+accepted : step (new-store 1) lent .answer ≡ Handle 4
+unfolding step new-step concludes provided run new constant identity-at-depth get place having mk-store mk-handle
+accepted = refl
+
+sets-tested : plain-steps store-calls 2 3 tested (begun 1) .state .lists .sets ≡ (0 ∷ 0 ∷ []) ∷ (0 ∷ 1 ∷ []) ∷ []
+unfolding in-turn plain-step on-lists concludes provided run new constant identity-at-depth raise test get place having mk-store mk-handle
+sets-tested = refl
+
+sets-renewed : plain-steps store-calls 2 3 (tested ++ renewed) (begun 1) .state .lists .sets ≡ (0 ∷ 0 ∷ []) ∷ []
+unfolding in-turn plain-step on-lists concludes provided run new constant identity-at-depth raise test get place having mk-store mk-handle
+sets-renewed = refl
+
+held-then : (S : Store) → S .sets ≡ (0 ∷ 0 ∷ []) ∷ (0 ∷ 1 ∷ []) ∷ [] → Held set S 1 4
+unfolding get
+held-then S e = record {
+  big = omega arith;
+  there = rw e (omega arith);
+  below = on-bits (λ d. child set S 4 d < 2) (rw e (omega arith)) (rw e (omega arith));
+}
+
+held-no-more : (S : Store) → S .sets ≡ (0 ∷ 0 ∷ []) ∷ [] → ¬ Held set S 1 4
+held-no-more S e A = let h = rw e at (A .there) in omega arith
+
+pub renewed-forgets : ¬ Lasts (decode (after-new store-calls 1 lent tested .state)) (decode (after-new store-calls 1 lent (tested ++ renewed) .state))
+renewed-forgets L =
+    let right = list-right 1 lent 4 accepted in
+    held-no-more _ (ap (λ S. S .sets) (right (tested ++ renewed) .matches .lists) ∙ sets-renewed)
+    (L .held set 1 4 (held-then _ (ap (λ S. S .sets) (right tested .matches .lists) ∙ sets-tested)))

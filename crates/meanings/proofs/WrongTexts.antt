@@ -1,0 +1,111 @@
+-- Wrong versions of the claims about texts, refuted by small lists of calls: from the theorem about every list.
+use mathlib.Core.Path.{_≡_, refl, sym, _∙_}
+use mathlib.Core.Logic.{inr}
+use mathlib.Core.List.{List, [], _∷_, _++_}
+use Prim.Native.Nat.{ℕ}
+use native.Mathlib.Omega.{arith}
+use lib.ListN.{replicate}
+use Rattle.nodes.specs.Images.{new}
+use Rattle.nodes.specs.Operations.{constant, identity-at-depth}
+use Rattle.nodes.specs.Packets.{none, more, Packet}
+use Rattle.nodes.specs.Policies.{Policy, fail, skip, tests, assigns, negates, plus, seq, stars, meaning, fields-below?, negates-predicates?, policy-program}
+use Rattle.nodes.specs.Programs.{run}
+use Rattle.nodes.specs.Store.{get, place, having, mk-store, mk-handle}
+use Rattle.nodes.specs.Meaning.{Same}
+use Rattle.judging.specs.Memory.{Memories, memories}
+use Rattle.store.specs.Calls.{new-store, step}
+use Rattle.meanings.specs.Lists.{in-turn, each-call}
+use Rattle.outcomes.specs.OnMemories.{new-step}
+use Rattle.outcomes.specs.Outcome.{provided, concludes}
+use Rattle.outcomes.specs.declared.Answer.the-variants as store
+use Rattle.texts.specs.Grammar.{Sum, a-zero, a-one, s-atom, p-one, u-one, u-plus}
+use Rattle.meanings.specs.EveryList.{AnyCall, policy, Keeps, answer-after, AcceptedIn, TextsRight}
+use Rattle.policies.specs.declared.PolicyAnswer.the-variants.{Handle, Declined}
+use Rattle.policies.specs.declared.PolicyRefusal.{PolicyRefusal}
+use Rattle.meanings.proofs.EveryList.{every-list}
+use Rattle.meanings.proofs.OneText.{tree-relates}
+use Rattle.meanings.proofs.KeptTexts.{not-handle}
+
+-- a store of one field with three places for relations, as `new` fills it
+abbrev lent : Memories
+lent = memories (replicate 14 0) (replicate 3 0)
+
+accepted : step (new-store 1) lent .answer ≡ store.Handle 4
+unfolding step new-step concludes provided run new constant identity-at-depth get place having mk-store mk-handle
+accepted = refl
+
+-- `0` and `1`
+abbrev zero-text : List ℕ
+zero-text = 48 ∷ []
+
+abbrev one-text : List ℕ
+one-text = 49 ∷ []
+
+zero-keeps : Keeps 1 zero-text
+unfolding fields-below? negates-predicates?
+zero-keeps = record {
+  short = omega arith;
+  rules = record { policy = fail; follows = u-one (p-one (s-atom a-zero)); below = refl; negates-predicates = refl };
+}
+
+one-keeps : Keeps 1 one-text
+unfolding fields-below? negates-predicates?
+one-keeps = record {
+  short = omega arith;
+  rules = record { policy = skip; follows = u-one (p-one (s-atom a-one)); below = refl; negates-predicates = refl };
+}
+
+-- a list of one text, on the store as `new` left it
+alone : (t : List ℕ) → TextsRight 1 lent (policy t ∷ [])
+unfolding each-call
+alone t = every-list 1 lent 4 accepted (policy t ∷ []) (tt, tt)
+
+zero-accepted : answer-after 1 lent [] zero-text ≡ Handle 2
+unfolding in-turn run new constant identity-at-depth get place having mk-store mk-handle policy-program zero-keeps
+zero-accepted = alone zero-text .refused zero-text [] [] refl zero-keeps
+
+one-accepted : answer-after 1 lent [] one-text ≡ Handle 3
+unfolding in-turn run new constant identity-at-depth get place having mk-store mk-handle policy-program one-keeps
+one-accepted = alone one-text .refused one-text [] [] refl one-keeps
+
+-- EVERY TEXT REFUSED, or every text on the store as `new` left it
+pub not-all-refused : ¬ ((t : List ℕ) → (r : PolicyRefusal) × (answer-after 1 lent [] t ≡ Declined r))
+not-all-refused f = let r = f zero-text in not-handle (sym (r .1) ∙ zero-accepted)
+
+-- ONE HANDLE for all texts
+pub not-one-handle : (h : ℕ) → ¬ ((cs : List AnyCall) (t : List ℕ) (g : ℕ) → AcceptedIn 1 lent cs t g → g ≡ h)
+not-one-handle h f =
+    let a = f (policy zero-text ∷ []) zero-text 2 (record { before = []; later = []; is = refl; handle = zero-accepted }) in
+    let b = f (policy one-text ∷ []) one-text 3 (record { before = []; later = []; is = refl; handle = one-accepted }) in
+    omega arith
+
+-- THE FIRST PRODUCT ONLY: it loses the pairs of the others
+unfoldable pub first-product : Policy → Policy
+first-product fail = fail
+first-product skip = skip
+first-product (tests v b) = tests v b
+first-product (assigns v b) = assigns v b
+first-product (negates x) = negates (first-product x)
+first-product (plus x y) = first-product x
+first-product (seq x y) = seq (first-product x) (first-product y)
+first-product (stars x) = stars (first-product x)
+
+pub not-first-product : ¬ ((x : Policy) → Same 1 (meaning 1 (first-product x)) (meaning 1 x))
+unfolding meaning first-product
+not-first-product f = f (plus fail skip) (0 ∷ []) (0 ∷ []) (more 0 (omega arith) none) (more 0 (omega arith) none) .1 (inr refl)
+
+-- so that `0+1` and `0` never have one handle
+abbrev sum-text : List ℕ
+sum-text = zero-text ++ (43 ∷ one-text)
+
+sum-follows : Sum 32 sum-text (plus fail skip)
+sum-follows = u-plus (u-one (p-one (s-atom a-zero))) (p-one (s-atom a-one))
+
+pub sum-is-another : (cs : List AnyCall) (D : TextsRight 1 lent cs) (g h : ℕ) → AcceptedIn 1 lent cs sum-text g → AcceptedIn 1 lent cs zero-text h
+    → ¬ (g ≡ h)
+unfolding meaning zero-keeps
+sum-is-another cs D g h A B e =
+    let p : Packet 1 (0 ∷ []) = more 0 (omega arith) none in
+    let s = D .one-handle sum-text zero-text g h A B .0 e (0 ∷ []) (0 ∷ []) p p .0
+    (tree-relates 1 sum-text (plus fail skip) sum-follows (0 ∷ []) (0 ∷ []) p p .0 (inr refl)) in
+    tree-relates 1 zero-text fail (zero-keeps .rules .follows) (0 ∷ []) (0 ∷ []) p p .1 s

@@ -1,0 +1,4 @@
+pub mod ReadMeanings
+pub mod PlainStore
+pub mod Lists
+pub mod EveryList

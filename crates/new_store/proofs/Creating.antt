@@ -1,0 +1,163 @@
+-- `new` before its nodes are made: what it declines, and the memories without nodes that it begins with.
+use mathlib.Core.Path.{_≡_, refl, sym, ap, _∙_, subst}
+use mathlib.Core.List.{List, [], _++_}
+use mathlib.Core.Bool.{true, false, _&&_}
+use Prim.Native.Nat.{ℕ, _+_, _-_, _*_, _/_, _<_, _≤_, min}
+use native.Mathlib.Omega.{arith}
+use lib.ListN.{length, set as put, drop, replicate, length-drop}
+use lib.Seq.{drop-drop}
+use lib.Dec.{leb}
+use borrow.Author.Tests.{le-leb, lt-leb}
+use Rattle.nodes.specs.Store.{Kind, set, rel, arity, Store, nodes, pick}
+use Rattle.nodes.specs.Programs.{run}
+use Rattle.nodes.specs.Places.{fits-places}
+use Rattle.nodes.specs.Images.{blank, new}
+use Rattle.nodes.proofs.New.{blank-formed, new-counts}
+use Rattle.outcomes.specs.OnMemories.{set-places, rel-places, heads?, new-step}
+use Rattle.new_store.specs.Creating.{NewChecked, Begun, Created}
+use Rattle.judging.specs.Commit.{cleared}
+use Rattle.judging.specs.Memory.{Memories, memories, memory, head, fields, places-in, flat, write, encode}
+use Rattle.outcomes.specs.Outcome.{Verdict, declines, runs, provided, told, concludes}
+use Rattle.outcomes.specs.declared.Answer.{Answer}
+use Rattle.outcomes.specs.declared.Check.the-variants.{Level}
+use Rattle.outcomes.specs.declared.Answer.the-variants.{Handle, Declined}
+use Rattle.outcomes.specs.declared.Refusal.the-variants.{NotStore, OutOfRange, UsedUp}
+use Rattle.outcomes.proofs.Encoding.{Space, encode-fields, decode-encode, encode-places, encode-store, encode-encode}
+use Rattle.outcomes.proofs.Handles.{provided-yes, provided-no}
+use Rattle.outcomes.proofs.Outcomes.{recount, put-count, and-false}
+
+-- the places by the lengths
+places-by : (K : Kind) (m : List ℕ) → min 4096 ((length m - head K) / arity K) ≡ places-in K m
+places-by K m = ap (λ l. min 4096 (l / arity K)) (sym (length-drop (head K) m))
+
+-- WHAT IT DECLINES
+module _ (k : ℕ) (M : Memories) where
+  abbrev made : Store
+  made = run (new k) blank .store
+
+  by-verdict : (u : Verdict) → provided OutOfRange (leb k 32) (provided NotStore (heads? M) (runs (new k))) ≡ u
+      → new-step k M ≡ concludes (set-places M) (rel-places M) u blank M (λ S. encode k S M)
+  unfolding new-step
+  by-verdict u e = ap (λ u. concludes (set-places M) (rel-places M) u blank M (λ S. encode k S M)) e
+
+  pub new-range : 32 < k → told (Declined OutOfRange) M ≡ new-step k M
+  unfolding concludes
+  new-range h = sym (by-verdict _ (provided-no _ _ _ (lt-leb k 32 h)))
+
+  module _ (few : k ≤ 32) where
+    enough : provided OutOfRange (leb k 32) (provided NotStore (heads? M) (runs (new k))) ≡ provided NotStore (heads? M) (runs (new k))
+    enough = provided-yes _ _ _ (le-leb k 32 few)
+
+    pub new-short : heads? M ≡ false → told (Declined NotStore) M ≡ new-step k M
+    unfolding concludes
+    new-short h = sym (by-verdict _ (enough ∙ provided-no _ _ _ h))
+
+    module _ (h : heads? M ≡ true) where
+      runs-new : new-step k M
+          ≡ pick (fits-places (set-places M) (rel-places M) made) (told (Handle (run (new k) blank .value)) (encode k made M)) (told (Declined UsedUp) M)
+      unfolding concludes
+      runs-new = by-verdict _ (enough ∙ provided-yes _ _ _ h)
+
+      fits-is : fits-places (set-places M) (rel-places M) made ≡ (leb k (set-places M) && leb (3 * k) (rel-places M))
+      fits-is = let c = new-counts k in (λ i. leb (c .1 i) (set-places M) && leb (c .0 i) (rel-places M))
+
+      pub new-full : (leb k (set-places M) && leb (3 * k) (rel-places M)) ≡ false → told (Declined UsedUp) M ≡ new-step k M
+      new-full f = sym (runs-new ∙ ap (λ b. pick b (told (Handle (run (new k) blank .value)) (encode k made M)) (told (Declined UsedUp) M)) (fits-is ∙ f))
+
+      pub new-fits : (leb k (set-places M) && leb (3 * k) (rel-places M)) ≡ true
+          → told (Handle (run (new k) blank .value)) (encode k made M) ≡ new-step k M
+      new-fits f = sym (runs-new ∙ ap (λ b. pick b (told (Handle (run (new k) blank .value)) (encode k made M)) (told (Declined UsedUp) M)) (fits-is ∙ f))
+
+-- the same by the lengths a and b of the memories, p places for relations and q for sets
+module _ (k a b : ℕ) (M : Memories) (ea : length (M .relations) ≡ a) (eb : length (M .sets) ≡ b) (few : k ≤ 32) where
+  pub short-relations : a < 2 → told (Declined NotStore) M ≡ new-step k M
+  short-relations h = new-short k M few (rw (lt-leb 2 (length (M .relations)) (subst (λ n. n < 2) (sym ea) h)))
+
+  pub short-sets : b < 1 → told (Declined NotStore) M ≡ new-step k M
+  short-sets h = new-short k M few (and-false (leb 2 (length (M .relations))) _ (lt-leb 1 (length (M .sets)) (subst (λ n. n < 1) (sym eb) h)))
+
+  module _ (h : 2 ≤ a) (g : 1 ≤ b) where
+    headed : heads? M ≡ true
+    headed = rw (le-leb 2 (length (M .relations)) (subst (λ n. 2 ≤ n) (sym ea) h), le-leb 1 (length (M .sets)) (subst (λ n. 1 ≤ n) (sym eb) g))
+
+    places-relations : (p : ℕ) → p ≡ min 4096 ((a - 2) / 4) → p ≡ rel-places M
+    places-relations p e = e ∙ ap (λ n. min 4096 ((n - 2) / 4)) (sym ea) ∙ places-by rel (M .relations)
+
+    places-sets : (q : ℕ) → q ≡ min 4096 ((b - 1) / 2) → q ≡ set-places M
+    places-sets q e = e ∙ ap (λ n. min 4096 ((n - 1) / 2)) (sym eb) ∙ places-by set (M .sets)
+
+    pub full-relations : (p n : ℕ) → n ≡ k → p ≡ min 4096 ((a - 2) / 4) → p < 3 * n → told (Declined UsedUp) M ≡ new-step k M
+    full-relations p n en e l =
+        let q = places-relations p e in
+        new-full k M few headed (and-false (leb k (set-places M)) _ (lt-leb (3 * k) (rel-places M) (omega (arith, q, en))))
+
+    pub full-sets : (q n : ℕ) → n ≡ k → q ≡ min 4096 ((b - 1) / 2) → q < n → told (Declined UsedUp) M ≡ new-step k M
+    full-sets q n en e l = let p = places-sets q e in let u = lt-leb k (set-places M) (omega (arith, p, en)) in new-full k M few headed (rw u)
+
+    pub fits-new : 3 * k ≤ min 4096 ((a - 2) / 4) → k ≤ min 4096 ((b - 1) / 2)
+        → told (Handle (run (new k) blank .value)) (encode k (run (new k) blank .store) M) ≡ new-step k M
+    fits-new l m =
+        let p = places-relations _ refl in
+        let q = places-sets _ refl in
+        let u = le-leb k (set-places M) (omega (arith, q)) in
+        let v = le-leb (3 * k) (rel-places M) (omega (arith, p)) in
+        new-fits k M few headed (rw (u, v))
+
+-- NO NODE: the memory of one kind, its places zero and its count 0
+begun-one : (K : Kind) (m : List ℕ) (p : ℕ) → head K ≤ length m → p ≡ places-in K m
+    → put (cleared (head K) (head K + arity K * p) m) (head K - 1) 0 ≡ write K (recount K m 0) [] m
+unfolding write flat
+begun-one K m p h e =
+    let c : head K + arity K * p - head K ≡ arity K * p = omega arith in
+    let z : arity K * p ≡ arity K * (places-in K m - 0) = ap (λ j. arity K * j) (e ∙ (let q : places-in K m ≡ places-in K m - 0 = omega arith in q)) in
+    put-count K m _ 0 h
+    ∙ ap (λ j. recount K m 0 ++ (replicate j 0 ++ drop j (drop (head K) m))) c
+    ∙ ap (λ x. recount K m 0 ++ (replicate (arity K * p) 0 ++ x)) (drop-drop (arity K * p) (head K) m)
+    ∙ (λ i. recount K m 0 ++ (replicate (z i) 0 ++ drop (head K + arity K * e i) m))
+
+-- what `begin` leaves in both memories, and the number of fields written
+pub begun-both : (M : Memories) (k : ℕ) (r s : List ℕ) → 2 ≤ length (M .relations) → 1 ≤ length (M .sets)
+    → r ≡ put (cleared 2 (2 + 4 * min 4096 ((length (M .relations) - 2) / 4)) (M .relations)) 1 0
+    → s ≡ put (cleared 1 (1 + 2 * min 4096 ((length (M .sets) - 1) / 2)) (M .sets)) 0 0 → memories (put r 0 k) s ≡ encode k blank M
+unfolding encode write
+begun-both M k r s h g e f i = record {
+  relations = (ap (λ x. put x 0 k) (e ∙ begun-one rel (M .relations) _ h (places-by rel (M .relations)))) i;
+  sets = (f ∙ begun-one set (M .sets) _ g (places-by set (M .sets))) i;
+}
+
+blank-space : {M : Memories} → 2 ≤ length (M .relations) → 1 ≤ length (M .sets) → Space blank M
+blank-space h g = record { headed = elim [ set ↦ g | rel ↦ h ]; within = elim [ set ↦ omega arith | rel ↦ omega arith ] }
+
+-- so begins the store of k fields
+pub begun : {k : ℕ} {w : List ℕ} (M : Memories) → k ≤ 32 → 2 ≤ length (M .relations) → 1 ≤ length (M .sets)
+    → 3 * k ≤ min 4096 ((length (M .relations) - 2) / 4) → k ≤ min 4096 ((length (M .sets) - 1) / 2) → w ≡ replicate (length w) 0
+    → Begun k (encode k blank M) w
+begun {k} M few h g p q z = record {
+  store = encode-store (blank-formed k) (blank-space h g) few;
+  wide = encode-fields k blank M;
+  none = decode-encode M k (blank-formed k);
+  sets = subst (λ n. k ≤ n) (places-by set (M .sets) ∙ sym (encode-places (blank-formed k) (blank-space h g) set k)) q;
+  relations = subst (λ n. 3 * k ≤ n) (places-by rel (M .relations) ∙ sym (encode-places (blank-formed k) (blank-space h g) rel k)) p;
+  clear = z;
+}
+
+-- `new` that goes on: r and s are the memories that `begin` left
+module _ (M : Memories) (k l n : ℕ) (t : NewChecked (length (M .relations)) (length (M .sets)) k (Level l)) (en : n ≡ l) (r s : List ℕ)
+    (er : r ≡ put (cleared 2 (2 + 4 * min 4096 ((length (M .relations) - 2) / 4)) (M .relations)) 1 0)
+    (es : s ≡ put (cleared 1 (1 + 2 * min 4096 ((length (M .sets) - 1) / 2)) (M .sets)) 0 0) where
+  begins : memories (put r 0 l) s ≡ encode k blank M
+  begins = ap (λ l. memories (put r 0 l) s) (t .0) ∙ begun-both M k r s (t .2) (t .3) er es
+
+  same : n ≡ k
+  same = en ∙ t .0
+
+  pub begun-here : (w : List ℕ) → w ≡ replicate (length w) 0 → Begun n (memories (put r 0 l) s) w
+  begun-here w z = subst (λ n. Begun n (memories (put r 0 l) s) w) (sym same) (subst (λ X. Begun k X w) (sym begins)
+      (begun M (t .1) (t .2) (t .3) (t .4) (t .5) z))
+
+  pub created-new : (M′ : Memories) (a : Answer) → Created n (memories (put r 0 l) s) M′ a → told a M′ ≡ new-step k M
+  created-new M′ a C =
+      let D = subst (λ n. Created n (encode k blank M) M′ a) same (subst (λ X. Created n X M′ a) begins C) in
+      (λ i. told (D .answer i) (D .state i))
+      ∙ ap (told (Handle (run (new k) blank .value))) (encode-encode (blank-formed k) (blank-space (t .2) (t .3)) k k (run (new k) blank .store))
+      ∙ fits-new k (length (M .relations)) (length (M .sets)) M refl refl (t .1) (t .2) (t .3) (t .4) (t .5)

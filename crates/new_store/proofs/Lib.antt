@@ -1,0 +1,3 @@
+mod Parts
+pub mod Creating
+pub mod Filling

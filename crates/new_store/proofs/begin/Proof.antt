@@ -1,0 +1,46 @@
+-- `begin` clears the places and the count.
+use mathlib.Core.Path.{ap, _∙_}
+use mathlib.Core.List.{List}
+use Prim.Native.Nat.{ℕ, _+_, _-_, _*_, _≤_}
+use native.Mathlib.Omega.{arith}
+use lib.ListN.{length, set as put}
+use borrow.Author.Needs.{needs}
+use Rattle.judging.specs.Commit.{cleared}
+use Rattle.judging.proofs.Rooms.{part-ends}
+use Rattle.judging.proofs.Clearing.{cleared-by}
+use Rattle.new_store.proofs.begin.Statement.{statement}
+use Rattle.new_store.proofs.begin.Tie as tie
+
+-- the places end within the memory
+ends : (c : tie.After-places-of) → (let a = c .before .before .args in a .start + a .c * c .places-of .result ≤ length (a .memory .now))
+ends c = let a = c .before .before .args in
+    let t = part-ends (length (a .memory .now) - a .start) (a .c) (c .places-of .result) (c .places-of .result) (c .places-of .ensures) (omega arith) in
+    omega (arith, t .1, c .before .before .pre .2)
+
+returns : tie.Need-returns
+returns c =
+    let c4 = c .before .before .before .before in
+    let c6 = c4 .before .before in
+    let a = c6 .args in
+    let p = c4 .places-of in
+    ap (λ (x : List ℕ). put x (a .start - 1) 0) (cleared-by _ _ _ _ (ends (c4)) (c .before .before .clear .ensures)
+    ∙ ap (λ n. cleared (a .start) (a .start + a .c * n) (a .memory .now)) (p .ensures))
+
+pub begin-spec : {M : Type 1} → statement M
+begin-spec =
+    tie.close
+    (tie.spec
+    (λ c. search needs)
+    (λ c κs. search needs)
+    (λ c. omega (arith, ends c))
+    (λ c. omega (arith, ends c))
+    (λ c. search needs)
+    (λ c. search needs)
+    (λ c. search needs)
+    (λ c. ends c)
+    (λ c κs. search needs)
+    (λ c. search needs)
+    (λ c. search needs)
+    (λ c. search needs)
+    (λ c. search needs)
+    returns)

@@ -1,0 +1,42 @@
+-- What the functions that make a new store say; a and b are the lengths of the relation memory and the set memory.
+use mathlib.Core.Path.{_≡_}
+use mathlib.Core.List.{List}
+use Prim.Native.Nat.{ℕ, _-_, _*_, _/_, _≤_, min}
+use lib.ListN.{length, replicate}
+use Rattle.nodes.specs.Store.{set, rel}
+use Rattle.nodes.specs.Programs.{Prog, bind, _>>=_, run}
+use Rattle.nodes.specs.Operations.{zero-at-depth, one-at-depth, top-at-depth}
+use Rattle.nodes.specs.Images.{blank, new}
+use Rattle.judging.specs.Memory.{Memories, fields, encode, decode}
+use Rattle.judging.specs.Valid.{IsStore}
+use Rattle.outcomes.specs.Outcome.{told}
+use Rattle.outcomes.specs.OnMemories.{set-places, rel-places, new-step}
+use Rattle.outcomes.specs.declared.Answer.{Answer}
+use Rattle.outcomes.specs.declared.Answer.the-variants.{Handle, Declined}
+use Rattle.outcomes.specs.declared.Check.{Check}
+use Rattle.outcomes.specs.declared.Check.the-variants.{Level, No}
+
+-- the two parts of `new`
+abbrev pub set-constants : ℕ → Prog
+set-constants k = zero-at-depth set k >>= λ z. one-at-depth set k
+
+abbrev pub relation-constants : ℕ → Prog
+relation-constants k = zero-at-depth rel k >>= λ z. one-at-depth rel k >>= λ o. top-at-depth k
+
+-- k fields fit, or why not
+abbrev pub NewChecked : ℕ → ℕ → ℕ → Check → Type 0
+NewChecked a b k (No q) = (M : Memories) → length (M .relations) ≡ a → length (M .sets) ≡ b → told (Declined q) M ≡ new-step k M
+NewChecked a b k (Level l) = (l ≡ k) × (k ≤ 32) × (2 ≤ a) × (1 ≤ b) × (3 * k ≤ min 4096 ((a - 2) / 4)) × (k ≤ min 4096 ((b - 1) / 2))
+
+-- a store of k fields without nodes, with places for the constants
+pub record Begun (k : ℕ) (M : Memories) (w : List ℕ) : Type 0 where
+  pub store : IsStore M
+  pub wide : fields M ≡ k
+  pub none : decode M ≡ blank
+  pub sets : k ≤ set-places M
+  pub relations : 3 * k ≤ rel-places M
+  pub clear : w ≡ replicate (length w) 0
+
+pub record Created (k : ℕ) (M M′ : Memories) (r : Answer) : Type 0 where
+  pub answer : r ≡ Handle (run (new k) blank .value)
+  pub state : M′ ≡ encode k (run (new k) blank .store) M

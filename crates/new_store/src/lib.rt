@@ -1,0 +1,119 @@
+// A new store in two lent memories.
+ghost use mathlib.Core.Path.{_≡_};
+ghost use mathlib.Core.Bool.{true};
+ghost use Prim.Native.Nat.{ℕ, _+_, _-_, _*_, _/_, _<_, _≤_, min};
+ghost use lib.ListN.{length, replicate, set as put};
+ghost use Rattle.nodes.specs.Store.{set, rel};
+ghost use Rattle.memory.specs.Arena.{arena, Performs};
+ghost use Rattle.judging.specs.Memory.{memories};
+ghost use Rattle.outcomes.specs.Outcome.{told};
+ghost use Rattle.outcomes.specs.OnMemories.{new-step};
+ghost use Rattle.judging.specs.Commit.{cleared};
+ghost use Rattle.new_store.specs.Creating.{set-constants, relation-constants, NewChecked, Begun, Created};
+
+// The numbers of a working memory with an index and a small memo.
+const LENT: usize = 12288;
+
+// Whether a store of k fields fits into memories of these lengths: 3k relation nodes and k set nodes.
+fn check(relations: usize, sets: usize, k: u32) -> outcomes::Check
+    ensures { λ r. ⌜ NewChecked relations sets k r ⌝ }
+{
+    if k > 32 {
+        return outcomes::Check::No(outcomes::Refusal::OutOfRange);
+    }
+    if relations < 2 {
+        return outcomes::Check::No(outcomes::Refusal::NotStore);
+    }
+    if sets < 1 {
+        return outcomes::Check::No(outcomes::Refusal::NotStore);
+    }
+    let n = memory::wide(k);
+    if 3 * n > memory::places_of(relations - 2, 4) {
+        return outcomes::Check::No(outcomes::Refusal::UsedUp);
+    }
+    if n > memory::places_of(sets - 1, 2) {
+        return outcomes::Check::No(outcomes::Refusal::UsedUp);
+    }
+    outcomes::Check::Level(k)
+}
+
+// No node, and all places free: nodes of c numbers begin at `start`.
+fn begin(memory: &mut [u32], start: usize, c: usize)
+    requires { ⌜ (0 < start) × (0 < c) × (start ≤ length (now memory)) ⌝ }
+    ensures { λ _. ⌜ now (memory .exit)
+        ≡ put (cleared start (start + c * min 4096 ((length (now (memory .entry)) - start) / c)) (now (memory .entry))) (start - 1) 0 ⌝ }
+{
+    let e = start + c * memory::places_of(memory.len() - start, c);
+    nodes::clear(&mut memory[start..e]);
+    memory[start - 1] = 0;
+}
+
+// The sets' constants of level k, on no node.
+fn set_nodes(nodes: &mut [u32], work: &mut [u32], k: u8) -> memory::Arena
+    ensures { λ r. ⌜ Performs set (set-constants k) (arena true 0 0) (now (nodes .entry)) (now (nodes .exit)) (now (work .entry)) (now (work .exit)) r ⌝ }
+{
+    let s = memory::Arena {
+        ok: true,
+        n: 0,
+        h: 0,
+    };
+    let z = sets::zero_at_depth(nodes, work, s, k);
+    sets::one_at_depth(nodes, work, z, k)
+}
+
+// The relations' constants of level k, on no node.
+fn relation_nodes(nodes: &mut [u32], work: &mut [u32], k: u8) -> memory::Arena
+    ensures { λ r. ⌜ Performs rel (relation-constants k) (arena true 0 0) (now (nodes .entry)) (now (nodes .exit)) (now (work .entry)) (now (work .exit)) r ⌝ }
+{
+    let s = memory::Arena {
+        ok: true,
+        n: 0,
+        h: 0,
+    };
+    let z = relations::zero_at_depth(nodes, work, s, k);
+    let o = relations::one_at_depth(nodes, work, z, k);
+    relations::top_at_depth(nodes, work, o, k)
+}
+
+// The constants of both kinds, in memories that hold no node.
+fn fill(relations: &mut [u32], sets: &mut [u32], work: &mut [u32], k: u8) -> outcomes::Answer
+    requires { ⌜ Begun k (memories (now relations) (now sets)) (now work) ⌝ }
+    ensures { λ r. ⌜ Created k (memories (now (relations .entry)) (now (sets .entry))) (memories (now (relations .exit)) (now (sets .exit))) r ⌝ }
+{
+    let s = set_nodes(&mut sets[1..], work, k);
+    outcomes::finish::finish(sets, 1, 2, 0, s);
+    memory::index::empty(work);
+    let r = relation_nodes(&mut relations[2..], work, k);
+    outcomes::finish::finish(relations, 2, 4, 0, r)
+}
+
+// The same with the part of a clear working memory that serves so few nodes; all of it is zero again.
+fn made(relations: &mut [u32], sets: &mut [u32], work: &mut [u32], k: u8) -> outcomes::Answer
+    requires { ⌜ Begun k (memories (now relations) (now sets)) (now work) ⌝ }
+    ensures made { λ r. ⌜ Created k (memories (now (relations .entry)) (now (sets .entry))) (memories (now (relations .exit)) (now (sets .exit))) r ⌝ }
+    ensures clear { λ r. ⌜ now (work .exit) ≡ replicate (length (now (work .entry))) 0 ⌝ }
+{
+    let e = if work.len() < LENT { work.len() } else { LENT };
+    let r = fill(relations, sets, &mut work[0..e], k);
+    nodes::clear(&mut work[0..e]);
+    r
+}
+
+// `SPPstore::new(k)`: the handle of the full relation, made last.
+pub fn new(relations: &mut [u32], sets: &mut [u32], work: &mut [u32], k: u32) -> outcomes::Answer
+    ensures { λ r. ⌜ (told r (memories (now (relations .exit)) (now (sets .exit)))
+        ≡ new-step k (memories (now (relations .entry)) (now (sets .entry))))
+        × (now (work .exit) ≡ replicate (length (now (work .entry))) 0) ⌝ }
+{
+    nodes::clear(work);
+    let check = check(relations.len(), sets.len(), k);
+    match check {
+        outcomes::Check::No(r) => outcomes::Answer::Declined(r),
+        outcomes::Check::Level(l) => {
+            begin(relations, 2, 4);
+            begin(sets, 1, 2);
+            relations[0] = l;
+            made(relations, sets, work, memory::narrow(l))
+        }
+    }
+}

@@ -1,0 +1,113 @@
+-- Operands and their levels: what `of-one`, `of-pair` and their fellows come to where a function says which handles are held, and at which level.
+use mathlib.Core.Path.{_≡_, refl, sym, ap, _∙_, subst}
+use mathlib.Core.List.{List}
+use mathlib.Core.Bool.{Bool, true, false, _&&_}
+use Prim.Native.Nat.{ℕ, _<_, _≤_}
+use lib.ListN.{length}
+use lib.Dec.{ltb, eqb, T}
+use borrow.Author.Tests.{lt-ltb, le-ltb, eq-eqb, ne-eqb}
+use Rattle.nodes.specs.Store.{Kind, arity, Store, nodes, index}
+use Rattle.nodes.specs.WellFormed.{Held, WellFormed, is-held, level-of}
+use Rattle.nodes.proofs.Levels.{level-is, held-at}
+use Rattle.memory.specs.Noting.{LevelIs}
+use Rattle.memory.specs.Rows.{places, plain}
+use Rattle.memory.proofs.Steps.{false≢true}
+use Rattle.outcomes.specs.Outcome.{Verdict, declines, provided, of-one, of-pair, of-four}
+use Rattle.outcomes.specs.Checking.{checked}
+use Rattle.outcomes.specs.declared.Check.{Check}
+use Rattle.outcomes.specs.declared.Check.the-variants.{Level, No}
+use Rattle.outcomes.specs.declared.Refusal.{Refusal}
+use Rattle.outcomes.specs.declared.Refusal.the-variants.{NotHeld, LevelsDiffer}
+
+pub provided-yes : (r : Refusal) (b : Bool) (v : Verdict) → b ≡ true → provided r b v ≡ v
+unfolding provided
+provided-yes r b v e = rw e
+
+pub provided-no : (r : Refusal) (b : Bool) (v : Verdict) → b ≡ false → provided r b v ≡ declines r
+unfolding provided
+provided-no r b v e = rw e
+
+pub held-low : (K : Kind) (S : Store) (h : ℕ) → h < 2 → is-held K S h ≡ true
+held-low K S h e = rw (lt-ltb h 2 e)
+
+pub held-place : (K : Kind) (S : Store) (h i n : ℕ) → 2 ≤ h → i ≡ index K h → length (nodes K S) ≡ n → is-held K S h ≡ ltb i n
+held-place K S h i n e p q = rw (le-ltb h 2 e, p, q)
+
+module _ {k : ℕ} {S : Store} (K : Kind) (F : WellFormed k S) where
+  pub held-here : (h : ℕ) → is-held K S h ≡ true → (level-of k K S h ≤ k) × Held K S (level-of k K S h) h
+  held-here h e =
+      let t = held-at K h F (subst T (sym e) tt) in
+      let q = level-is K S k (t .0) h (t .1) (t .2) in (subst (λ l. l ≤ k) (sym q) (t .1), subst (λ l. Held K S l h) (sym q) (t .2))
+
+  pub one-none : (a : ℕ) (v : ℕ → Verdict) → is-held K S a ≡ false → of-one k K S a v ≡ declines NotHeld
+  unfolding of-one
+  one-none a v e = provided-no _ _ _ e
+
+  pub one-is : (a l : ℕ) (v : ℕ → Verdict) → is-held K S a ≡ true → l ≡ level-of k K S a → of-one k K S a v ≡ v l
+  unfolding of-one
+  one-is a l v e f = provided-yes _ _ _ e ∙ ap v (sym f)
+
+  -- four operands: all held, all at one level
+  module _ (a b c d : ℕ) (v : ℕ → Verdict) where
+    pub four-none : (is-held K S a && (is-held K S b && (is-held K S c && is-held K S d))) ≡ false → of-four k K S a b c d v ≡ declines NotHeld
+    unfolding of-four
+    four-none e = provided-no _ _ _ e
+
+    module _ (e : (is-held K S a && (is-held K S b && (is-held K S c && is-held K S d))) ≡ true) (l : ℕ) (p : l ≡ level-of k K S a) where
+      at-levels : (x : Bool) → (eqb (level-of k K S b) l && (eqb (level-of k K S c) l && eqb (level-of k K S d) l)) ≡ x
+          → of-four k K S a b c d v ≡ provided LevelsDiffer x (v l)
+      unfolding of-four
+      at-levels x q = provided-yes _ _ _ e ∙ rw (← p, q)
+
+      pub four-apart : (eqb (level-of k K S b) l && (eqb (level-of k K S c) l && eqb (level-of k K S d) l)) ≡ false
+          → of-four k K S a b c d v ≡ declines LevelsDiffer
+      four-apart q = at-levels false q ∙ provided-no _ _ _ refl
+
+      pub four-are : (eqb (level-of k K S b) l && (eqb (level-of k K S c) l && eqb (level-of k K S d) l)) ≡ true → of-four k K S a b c d v ≡ v l
+      four-are q = at-levels true q ∙ provided-yes _ _ _ refl
+
+-- two operands of the kinds K and J
+module _ {k : ℕ} {S : Store} (K J : Kind) (F : WellFormed k S) (a b : ℕ) (v : ℕ → Verdict) where
+  pub pair-first : is-held K S a ≡ false → of-pair k S K a J b v ≡ declines NotHeld
+  unfolding of-pair
+  pair-first e = one-none K F a _ e
+
+  pub pair-second : is-held K S a ≡ true → is-held J S b ≡ false → of-pair k S K a J b v ≡ declines NotHeld
+  unfolding of-pair
+  pair-second e f = one-is K F a _ _ e refl ∙ one-none J F b _ f
+
+  module _ (l j : ℕ) (e : is-held K S a ≡ true) (f : is-held J S b ≡ true) (p : l ≡ level-of k K S a) (q : j ≡ level-of k J S b) where
+    levels : of-pair k S K a J b v ≡ provided LevelsDiffer (eqb j l) (v l)
+    unfolding of-pair
+    levels = one-is K F a l _ e p ∙ one-is J F b j _ f q
+
+    pub pair-apart : (j ≡ l → ⊥) → of-pair k S K a J b v ≡ declines LevelsDiffer
+    pair-apart n = levels ∙ provided-no _ _ _ (ne-eqb j l n)
+
+    pub pair-are : j ≡ l → of-pair k S K a J b v ≡ v l
+    pair-are n = levels ∙ provided-yes _ _ _ (eq-eqb j l n)
+
+-- each of four tests
+pub all-four : (a b c d : Bool) → (a && (b && (c && d))) ≡ true → (a ≡ true) × (b ≡ true) × (c ≡ true) × (d ≡ true)
+all-four true true true true e = (refl, refl, refl, refl)
+all-four true true true false e = absurd (false≢true e)
+all-four true true false d e = absurd (false≢true e)
+all-four true false c d e = absurd (false≢true e)
+all-four false b c d e = absurd (false≢true e)
+
+-- the level that `level` finds
+pub level-told : {c k h r : ℕ} (K : Kind) (B : Store) (m : List ℕ) (n : ℕ) → LevelIs m c k h r → c ≡ arity K → n ≤ places (arity K) m
+    → WellFormed k (plain K B m n) → is-held K (plain K B m n) h ≡ true → r ≡ level-of k K (plain K B m n) h
+level-told K B m n L e f F t = let u = held-here K F _ t in L K B n _ e (subst (λ c. n ≤ places c m) (sym e) f) (u .1) (u .0)
+
+-- a check, and one more test t where it goes on
+module _ {X : Verdict} {r : Check} (q : Refusal) (t : ℕ → Bool) (v : ℕ → Verdict) (C : X ≡ checked r (λ l. provided q (t l) (v l))) where
+  pub then-no : (l : ℕ) → r ≡ Level l → t l ≡ false → X ≡ declines q
+  then-no l e f = C ∙ ap (λ r. checked r (λ l. provided q (t l) (v l))) e ∙ provided-no _ _ _ f
+
+  pub then-yes : (l : ℕ) → r ≡ Level l → t l ≡ true → X ≡ v l
+  then-yes l e f = C ∙ ap (λ r. checked r (λ l. provided q (t l) (v l))) e ∙ provided-yes _ _ _ f
+
+-- a refusal stays, whatever was to follow
+pub still-no : {X : Verdict} {r : Check} (q : Refusal) (w w′ : ℕ → Verdict) → r ≡ No q → X ≡ checked r w → X ≡ checked r w′
+still-no q w w′ e C = C ∙ ap (λ r. checked r w) e ∙ sym (ap (λ r. checked r w′) e)

@@ -1,0 +1,228 @@
+-- What a call comes to on two memories: a refusal or an answer leaves them, and a program that ran on the nodes of one kind
+-- leaves what `finish` made of that kind's memory.
+use mathlib.Core.Path.{_≡_, refl, sym, ap, _∙_, subst}
+use mathlib.Core.List.{List, [], _∷_, _++_}
+use mathlib.Core.Bool.{Bool, true, false, _&&_}
+use Prim.Native.Nat.{ℕ, _+_, _-_, _*_, _≤_}
+use native.Mathlib.Omega.{arith}
+use native.Mathlib.Nat.{mul-le-mul-left}
+use lib.ListN.{length, getD, set as put, take, drop, length-drop}
+use lib.Seq.{take-add, drop-drop, length-take-le, take-append-add, drop-append-add}
+use lib.Dec.{leb}
+use borrow.Author.Tests.{le-leb}
+use Rattle.nodes.specs.Store.{Kind, set, rel, arity, Nodes, Store, nodes, with-nodes, pick}
+use Rattle.nodes.specs.Programs.{Prog, run}
+use Rattle.nodes.specs.Places.{fits-places}
+use Rattle.nodes.proofs.Bools.{by-test}
+use Rattle.memory.specs.Rows.{rows, plain}
+use Rattle.memory.specs.Arena.{arena, ends, Runs}
+use Rattle.memory.specs.declared.Arena.{Arena}
+use Rattle.memory.proofs.Rows.{rows-length, places-fit, plain-nodes}
+use Rattle.outcomes.specs.OnMemories.{set-places, rel-places, on-store}
+use Rattle.outcomes.specs.Finishing.{Finished}
+use Rattle.judging.specs.Memory.{Memories, memories, memory, head, count, fields, body, places-in, nodes-in, decode, write, encode}
+use Rattle.outcomes.specs.Outcome.{Verdict, declines, gives, runs, told, concludes}
+use Rattle.judging.specs.Valid.{Room, IsStore, store?}
+use Rattle.outcomes.specs.declared.Answer.{Answer}
+use Rattle.outcomes.specs.declared.Answer.the-variants.{Handle, Declined}
+use Rattle.outcomes.specs.declared.Refusal.{Refusal}
+use Rattle.outcomes.specs.declared.Refusal.the-variants.{NotStore, UsedUp}
+use Rattle.judging.proofs.Decide.{store-says}
+use Rattle.judging.proofs.Deciding.{decided-true}
+use Rattle.outcomes.proofs.Handles.{provided-yes, provided-no}
+use Rattle.outcomes.proofs.Writing.{spread, room-free, write-body, write-back, cleared-back}
+
+-- HEADS. A memory's head numbers with another count
+abbrev pub recount : Kind → List ℕ → ℕ → List ℕ
+recount set m n = n ∷ []
+recount rel m n = getD m 0 0 ∷ n ∷ []
+
+pub put-count : (K : Kind) (m b : List ℕ) (n : ℕ) → head K ≤ length m → put (take (head K) m ++ b) (head K - 1) n ≡ recount K m n ++ b
+put-count set [] b n h = absurd (omega arith)
+put-count set (x ∷ m) b n h = refl
+put-count rel [] b n h = absurd (omega arith)
+put-count rel (x ∷ []) b n h = absurd (omega arith)
+put-count rel (x ∷ y ∷ m) b n h = refl
+
+same-count : (K : Kind) (m : List ℕ) → head K ≤ length m → recount K m (count K m) ≡ take (head K) m
+same-count set [] h = absurd (omega arith)
+same-count set (x ∷ m) h = refl
+same-count rel [] h = absurd (omega arith)
+same-count rel (x ∷ []) h = absurd (omega arith)
+same-count rel (x ∷ y ∷ m) h = refl
+
+-- ONE MEMORY: m before the call, m₁ with the nodes b that a program left, m′ after `finish`
+module _ (K : Kind) (p : Prog) (B : Store) (m m₁ m′ b w w′ : List ℕ) (r : Arena) (a : Answer) (R : Room K m)
+    (P : Runs K p B (arena true (count K m) 0) (body K m) b w w′ r) (put-back : m₁ ≡ take (head K) m ++ b)
+    (F : Finished m₁ m′ (head K) (arity K) (count K m) r a) where
+  abbrev S : Store
+  S = plain K B (body K m) (count K m)
+
+  -- the nodes that the program leaves, where all fitted
+  left : r .ok ≡ true → nodes K (run p S .store) ≡ rows (arity K) (r .n) b
+  left t = ap (nodes K) (sym (P .done t .store)) ∙ plain-nodes K B b (r .n)
+
+  pub fitted-memory : r .ok ≡ true → (let N = nodes K (run p S .store) in
+      (a ≡ Handle (run p S .value)) × (m′ ≡ write K (recount K m (length N)) N m))
+  fitted-memory t =
+      let u = F .fitted t in
+      let W = P .writes in
+      let l : length (nodes K (run p S .store)) ≡ r .n = ap length (left t) ∙ rows-length (arity K) (r .n) b in
+      let q : write K (recount K m (r .n)) (rows (arity K) (r .n) b) m ≡ recount K m (r .n) ++ b
+      = write-body K _ m b (r .n) (room-free K m (r .n) R (W .grows) (W .most)) (record { long = W .long; rest = W .rest }) in (
+        u .0 ∙ ap Handle (P .done t .value),
+        u .1 ∙ ap (λ x. put x (head K - 1) (r .n)) put-back ∙ put-count K m b (r .n) (R .headed) ∙ sym q
+            ∙ sym (λ i. write K (recount K m (l i)) (left t i) m),
+      )
+
+  pub full-memory : r .ok ≡ false → (a ≡ Declined UsedUp) × (m′ ≡ m)
+  full-memory f =
+      let u = F .full f in
+      let W = P .writes in
+      let c = arity K in
+      let n = count K m in
+      let h : length (take (head K) m) ≡ head K = length-take-le (head K) m (R .headed) in
+      let g = mul-le-mul-left c (W .grows) in
+      let e = places-fit c (body K m) (r .n) (W .most) in
+      let top = mul-le-mul-left c (W .most) in
+      let x = spread c n (places-in K m) (R .within) in
+      let t : take (head K + c * n) m₁ ≡ take (head K + c * n) m
+      = ap (take (head K + c * n)) put-back ∙ ap (λ k. take (k + c * n) (take (head K) m ++ b)) (sym h) ∙ take-append-add (take (head K) m) b (c * n)
+      ∙ ap (λ x. take (head K) m ++ x) (W .head) ∙ sym (take-add (head K) (c * n) m) in
+      let d : drop (head K + c * r .n) m₁ ≡ drop (head K + c * r .n) m
+      = ap (drop (head K + c * r .n)) put-back ∙ ap (λ k. drop (k + c * r .n) (take (head K) m ++ b)) (sym h) ∙ drop-append-add (take (head K) m) b (c * r .n)
+      ∙ W .rest ∙ drop-drop (c * r .n) (head K) m in (
+        u .0,
+        u .1 ∙ cleared-back m m₁ (head K + c * n) (head K + c * r .n) (omega arith) (omega (arith, length-drop (head K) m, R .headed))
+            (λ j l. R .blank j (omega arith)) t d,
+      )
+
+-- BOTH MEMORIES
+abbrev pub with-memory : Kind → List ℕ → Memories → Memories
+with-memory set m M = memories (M .relations) m
+with-memory rel m M = memories m (M .sets)
+
+nodes-count : (K : Kind) (m : List ℕ) → length (nodes-in K m) ≡ count K m
+nodes-count K m = rows-length (arity K) (count K m) (body K m)
+
+-- a memory written again
+pub same-memory : (K : Kind) (m : List ℕ) → Room K m → write K (recount K m (length (nodes-in K m))) (nodes-in K m) m ≡ m
+same-memory K m R = ap (λ h. write K h (nodes-in K m) m) (ap (recount K m) (nodes-count K m) ∙ same-count K m (R .headed)) ∙ write-back K m R
+
+-- other nodes of one kind: only that kind's memory is written
+pub encode-one : (K : Kind) (M : Memories) (N : Nodes) → IsStore M
+    → encode (fields M) (with-nodes K N (decode M)) M ≡ with-memory K (write K (recount K (memory K M) (length N)) N (memory K M)) M
+unfolding encode decode
+encode-one set M N s = ap (λ r. memories r (write set (length N ∷ []) N (M .sets))) (same-memory rel (M .relations) (s .room rel))
+encode-one rel M N s = ap (λ t. memories (write rel (fields M ∷ length N ∷ []) N (M .relations)) t) (same-memory set (M .sets) (s .room set))
+
+module _ (v : ℕ → Store → Verdict) (M : Memories) where
+  pub not-store : store? M ≡ false → told (Declined NotStore) M ≡ on-store v M
+  unfolding on-store concludes
+  not-store e = sym (ap (λ u. concludes (set-places M) (rel-places M) u (decode M) M (λ S. encode (fields M) S M)) (provided-no _ _ _ e))
+
+  -- on a store, the verdict is the call's
+  module _ (s : IsStore M) where
+    pub judged : (u : Verdict) → v (fields M) (decode M) ≡ u
+        → on-store v M ≡ concludes (set-places M) (rel-places M) u (decode M) M (λ S. encode (fields M) S M)
+    unfolding on-store
+    judged u e = ap (λ u. concludes (set-places M) (rel-places M) u (decode M) M (λ S. encode (fields M) S M))
+        (provided-yes _ _ _ (decided-true (store-says M) s) ∙ e)
+
+    pub declined : (r : Refusal) → v (fields M) (decode M) ≡ declines r → told (Declined r) M ≡ on-store v M
+    unfolding concludes
+    declined r e = sym (judged (declines r) e)
+
+    pub given : (a : Answer) → v (fields M) (decode M) ≡ gives a → told a M ≡ on-store v M
+    unfolding concludes
+    given a e = sym (judged (gives a) e)
+
+-- A PROGRAM, where it fits
+pub run-fits : (p : Prog) (M : Memories) → IsStore M → fits-places (set-places M) (rel-places M) (run p (decode M) .store) ≡ true
+    → on-store (λ k S. runs p) M ≡ told (Handle (run p (decode M) .value)) (encode (fields M) (run p (decode M) .store) M)
+unfolding concludes
+run-fits p M s f = judged (λ k S. runs p) M s (runs p) refl
+    ∙ ap (λ b. pick b (told (Handle (run p (decode M) .value)) (encode (fields M) (run p (decode M) .store) M)) (told (Declined UsedUp) M)) f
+
+-- A PROGRAM that ran on the nodes of one kind
+pub decoded : (K : Kind) (M : Memories) → plain K (decode M) (body K (memory K M)) (count K (memory K M)) ≡ decode M
+unfolding decode
+decoded set M = refl
+decoded rel M = refl
+
+nodes-few : (K : Kind) (M : Memories) → IsStore M → length (nodes K (decode M)) ≤ places-in K (memory K M)
+unfolding decode
+nodes-few set M s = subst (λ n. n ≤ set-places M) (sym (nodes-count set (M .sets))) (s .room set .within)
+nodes-few rel M s = subst (λ n. n ≤ rel-places M) (sym (nodes-count rel (M .relations))) (s .room rel .within)
+
+fits-one : (K : Kind) (M : Memories) (N : Nodes) → IsStore M → leb (length N) (places-in K (memory K M)) ≡ true
+    → fits-places (set-places M) (rel-places M) (with-nodes K N (decode M)) ≡ true
+fits-one set M N s e = rw (e, le-leb _ _ (nodes-few rel M s))
+fits-one rel M N s e = rw (e, le-leb _ _ (nodes-few set M s))
+
+pub and-false : (b c : Bool) → c ≡ false → (b && c) ≡ false
+and-false true c e = e
+and-false false c e = refl
+
+full-one : (K : Kind) (M : Memories) (S : Store) → leb (length (nodes K S)) (places-in K (memory K M)) ≡ false
+    → fits-places (set-places M) (rel-places M) S ≡ false
+full-one set M S e = rw e
+full-one rel M S e = and-false (leb (length (S .sets)) (set-places M)) (leb (length (S .rels)) (rel-places M)) e
+
+with-same : (K : Kind) (M : Memories) → with-memory K (memory K M) M ≡ M
+with-same set M = refl
+with-same rel M = refl
+
+with-twice : (K : Kind) (N : Nodes) (S : Store) → nodes K (with-nodes K N S) ≡ N
+with-twice set N S = refl
+with-twice rel N S = refl
+
+module _ (v : ℕ → Store → Verdict) (M : Memories) (s : IsStore M) (K : Kind) (p : Prog) (m₁ m′ b w w′ : List ℕ) (r : Arena) (a : Answer)
+    (e : v (fields M) (decode M) ≡ runs p) (P : Runs K p (decode M) (arena true (count K (memory K M)) 0) (body K (memory K M)) b w w′ r)
+    (put-back : m₁ ≡ take (head K) (memory K M) ++ b) (F : Finished m₁ m′ (head K) (arity K) (count K (memory K M)) r a) where
+  abbrev S₀ : Store
+  S₀ = plain K (decode M) (body K (memory K M)) (count K (memory K M))
+
+  abbrev S′ : Store
+  S′ = run p (decode M) .store
+
+  ended : on-store v M
+      ≡ pick (fits-places (set-places M) (rel-places M) S′) (told (Handle (run p (decode M) .value)) (encode (fields M) S′ M)) (told (Declined UsedUp) M)
+  unfolding concludes
+  ended = judged v M s (runs p) e
+
+  same-run : run p S₀ ≡ run p (decode M)
+  same-run = ap (run p) (decoded K M)
+
+  okay : r .ok ≡ leb (length (nodes K S′)) (places-in K (memory K M))
+  unfolding ends
+  okay = P .okay ∙ ap (λ R. leb (length (nodes K (R .store))) (places-in K (memory K M))) same-run
+
+  -- the run leaves the nodes of the other kind
+  one-kind : r .ok ≡ true → S′ ≡ with-nodes K (nodes K S′) (decode M)
+  one-kind t =
+      let q : plain K (decode M) b (r .n) ≡ S′ = P .done t .store ∙ ap (λ R. R .store) same-run in
+      sym q ∙ ap (λ N. with-nodes K N (decode M)) (sym (with-twice K (rows (arity K) (r .n) b) (decode M)) ∙ ap (nodes K) q)
+
+  ran-fits : r .ok ≡ true → told a (with-memory K m′ M) ≡ on-store v M
+  ran-fits t =
+      let N = nodes K S′ in
+      let f = fitted-memory K p (decode M) (memory K M) m₁ m′ b w w′ r a (s .room K) P put-back F t in
+      let g : fits-places (set-places M) (rel-places M) S′ ≡ true
+      = ap (fits-places (set-places M) (rel-places M)) (one-kind t) ∙ fits-one K M N s (sym okay ∙ t) in
+      let x : m′ ≡ write K (recount K (memory K M) (length N)) N (memory K M)
+      = f .1 ∙ ap (λ R. write K (recount K (memory K M) (length (nodes K (R .store)))) (nodes K (R .store)) (memory K M)) same-run in
+      let y : encode (fields M) S′ M ≡ with-memory K m′ M
+      = ap (λ S. encode (fields M) S M) (one-kind t) ∙ encode-one K M N s ∙ ap (λ x. with-memory K x M) (sym x) in
+      sym (ended ∙ ap (λ b. pick b (told (Handle (run p (decode M) .value)) (encode (fields M) S′ M)) (told (Declined UsedUp) M)) g
+      ∙ (λ i. told (Handle (sym same-run i .value)) (y i)) ∙ ap (λ a. told a (with-memory K m′ M)) (sym (f .0)))
+
+  ran-full : r .ok ≡ false → told a (with-memory K m′ M) ≡ on-store v M
+  ran-full t =
+      let f = full-memory K p (decode M) (memory K M) m₁ m′ b w w′ r a (s .room K) P put-back F t in
+      let g = full-one K M S′ (sym okay ∙ t) in
+      (λ i. told (f .0 i) (with-memory K (f .1 i) M)) ∙ ap (told (Declined UsedUp)) (with-same K M)
+      ∙ sym (ended ∙ ap (λ b. pick b (told (Handle (run p (decode M) .value)) (encode (fields M) S′ M)) (told (Declined UsedUp) M)) g)
+
+  pub ran-on : told a (with-memory K m′ M) ≡ on-store v M
+  ran-on = by-test (λ b. r .ok ≡ b → told a (with-memory K m′ M) ≡ on-store v M) (r .ok) (λ t u. ran-fits u) (λ t u. ran-full u) refl

@@ -1,0 +1,143 @@
+-- A call on judged memories: what its check says of the verdict, and what its program leaves, for the kind K that it adds to.
+use mathlib.Core.Path.{_≡_, refl, sym, ap, _∙_, subst}
+use mathlib.Core.List.{List}
+use mathlib.Core.Bool.{Bool, true}
+use Prim.Native.Nat.{ℕ, _+_, _-_, _*_, _≤_}
+use native.Mathlib.Omega.{arith}
+use lib.ListN.{length, take, drop, length-append}
+use lib.Seq.{length-take-le}
+use lib.Dec.{T}
+use borrow.Rule.Slice.PartMut.{putMid}
+use Rattle.nodes.specs.Store.{Kind, set, rel, arity, Store, nodes}
+use Rattle.nodes.specs.Programs.{Prog}
+use Rattle.nodes.specs.Safety.{Safe}
+use Rattle.nodes.specs.WellFormed.{WellFormed}
+use Rattle.memory.specs.Arena.{arena, other, Condition, PerformsOn, Beside, Runs}
+use Rattle.memory.specs.Rows.{rows, places, plain}
+use Rattle.memory.specs.Working.{Right}
+use Rattle.memory.specs.declared.Arena.{Arena}
+use Rattle.memory.proofs.Rows.{places-fit}
+use Rattle.outcomes.specs.OnMemories.{on-store}
+use Rattle.outcomes.specs.Checking.{checked, Low, Goes, Checks, ChecksBoth, Accepted}
+use Rattle.outcomes.specs.Finishing.{Finished}
+use Rattle.judging.specs.Judging.{kind-last, both, StoreJudged}
+use Rattle.judging.specs.Memory.{Memories, memory, head, count, fields, body, decode}
+use Rattle.outcomes.specs.Outcome.{Verdict, runs, told}
+use Rattle.judging.specs.Valid.{IsStore}
+use Rattle.outcomes.specs.declared.Answer.{Answer}
+use Rattle.outcomes.specs.declared.Answer.the-variants.{Declined}
+use Rattle.outcomes.specs.declared.Check.{Check}
+use Rattle.outcomes.specs.declared.Check.the-variants.{Level, No}
+use Rattle.outcomes.specs.declared.Refusal.{Refusal}
+use Rattle.judging.proofs.Decide.{store-says}
+use Rattle.outcomes.proofs.Outcomes.{with-memory, decoded, declined, ran-on}
+use Rattle.judging.proofs.Whole.{whole-part}
+use Rattle.outcomes.proofs.Writing.{tail-put}
+
+-- judged memories
+pub judged-ready : {M : Memories} {w w′ : List ℕ} {last r : Bool} → StoreJudged M last w w′ r → r ≡ true → Accepted (kind-last last) M w′
+judged-ready {M} J t = record { store = store-says M .iff .0 (subst T (sym t ∙ J .says) tt); right = J .right t }
+
+-- the part after the head, as the code lends it on
+abbrev pub part-of : Kind → Memories → List ℕ
+part-of K M = take (length (memory K M) - head K) (drop (head K) (memory K M))
+
+-- the first n nodes of that part are the store's own
+pub record Here (K : Kind) (M : Memories) (w : List ℕ) (n : ℕ) : Type 0 where
+  pub nodes : plain K (decode M) (part-of K M) n ≡ decode M
+  pub room : n ≤ places (arity K) (part-of K M)
+  pub right : Right K (decode M) w (part-of K M) n
+
+module _ (K : Kind) (M : Memories) (s : IsStore M) (n : ℕ) (en : n ≡ count K (memory K M)) where
+  nodes-here : plain K (decode M) (part-of K M) n ≡ decode M
+  nodes-here = (λ i. plain K (decode M) (whole-part (head K) (memory K M) i) (en i)) ∙ decoded K M
+
+  room-here : n ≤ places (arity K) (part-of K M)
+  room-here = subst (λ b. n ≤ places (arity K) b) (sym (whole-part (head K) (memory K M)))
+      (subst (λ n. n ≤ places (arity K) (body K (memory K M))) (sym en) (s .room K .within))
+
+pub ready-here : (K : Kind) (M : Memories) (w : List ℕ) (n : ℕ) → Accepted K M w → n ≡ count K (memory K M) → Here K M w n
+ready-here K M w n Y en = let e = whole-part (head K) (memory K M) in record {
+  nodes = nodes-here K M (Y .store) n en;
+  room = room-here K M (Y .store) n en;
+  right = subst (λ b. Right K (decode M) w b n) (sym e) (subst (λ n. Right K (decode M) w (body K (memory K M)) n) (sym en) (Y .right));
+}
+
+-- A CHECK that says how the call goes on
+module _ (M : Memories) (s : IsStore M) (judge : ℕ → Store → (ℕ → Verdict) → Verdict) (r : Check) (G : Goes (fields M) (decode M) (judge (fields M)) r) where
+  pub check-no : (v : ℕ → Store → ℕ → Verdict) (q : Refusal) → r ≡ No q → told (Declined q) M ≡ on-store (λ k S. judge k S (v k S)) M
+  check-no v q e = declined _ M s q (G .says _ ∙ ap (λ r. checked r (v (fields M) (decode M))) e)
+
+  pub check-goes : (v : ℕ → Verdict) (l : ℕ) → r ≡ Level l → judge (fields M) (decode M) v ≡ v l
+  check-goes v l e = G .says v ∙ ap (λ r. checked r v) e
+
+  pub check-low : (l : ℕ) → r ≡ Level l → l ≤ 32
+  check-low l e = let h = subst (Low (fields M)) e (G .low) in let f = s .few in omega arith
+
+pub checked-here : {M : Memories} {n : ℕ} {judge : Store → (ℕ → Verdict) → Verdict} {r : Check} (K : Kind) (s : IsStore M)
+    → n ≡ count K (memory K M) → Checks K (part-of K M) n (fields M) judge r → Goes (fields M) (decode M) judge r
+checked-here {M} {n} {judge} {r} K s en C = let e = nodes-here K M s n en in record {
+  says = λ v. subst (λ S. judge S v ≡ checked r v) e (C .says (decode M) (room-here K M s n en) (subst (WellFormed (fields M)) (sym e) (s .formed)) v);
+  low = C .low;
+}
+
+nodes-are : (M : Memories) (K : Kind) → nodes K (decode M) ≡ rows (arity K) (count K (memory K M)) (body K (memory K M))
+unfolding decode
+nodes-are M set = refl
+nodes-are M rel = refl
+
+-- BOTH KINDS: the nodes in the two parts are the store's own
+module _ (M : Memories) (s : IsStore M) where
+  pub beside-here : (K : Kind) (j : ℕ) → j ≡ count (other K) (memory (other K) M) → Beside K (part-of (other K) M) j (decode M)
+  beside-here K j e = let L = other K in let q = whole-part (head L) (memory L M) in record {
+    read = nodes-are M L ∙ sym (λ i. rows (arity L) (e i) (q i));
+    within = room-here L M s j e;
+  }
+
+  pub both-here : {judge : Store → (ℕ → Verdict) → Verdict} {r : Check} {n j : ℕ} → n ≡ count rel (M .relations) → j ≡ count set (M .sets)
+      → ChecksBoth (part-of rel M) n (part-of set M) j (fields M) judge r → Goes (fields M) (decode M) judge r
+  both-here {judge} {r} {n} {j} en ej C =
+      let a = beside-here set n en in
+      let b = beside-here rel j ej in
+      let e : both rel (part-of rel M) n (part-of set M) j ≡ decode M = λ i. record { sets = sym (b .read) i; rels = sym (a .read) i } in
+      subst (λ S. Goes (fields M) S judge r) e (C .goes (a .within) (b .within) (subst (WellFormed (fields M)) (sym e) (s .formed)))
+
+-- A PROGRAM of the kind K
+module _ (K : Kind) (M : Memories) (w : List ℕ) (Y : Accepted K M w) (n : ℕ) (en : n ≡ count K (memory K M)) where
+  abbrev m : List ℕ
+  m = memory K M
+
+  abbrev part : List ℕ
+  part = part-of K M
+
+  H : Here K M w n
+  H = ready-here K M w n Y en
+
+  module _ {Q : Condition} (on : Q (decode M)) (p q : Prog) (b w′ : List ℕ) (r : Arena) (eq : q ≡ p) (s : Safe p (decode M))
+      (P : PerformsOn Q K q (arena true n 0) part b w w′ r) where
+    pub runs-here : Runs K p (decode M) (arena true (count K m) 0) (body K m) b w w′ r
+    runs-here =
+        subst (λ n. Runs K p (decode M) (arena true n 0) (body K m) b w w′ r) en
+        (subst (λ x. Runs K p (decode M) (arena true n 0) x b w w′ r) (whole-part (head K) m)
+        (subst (λ p. Runs K p (decode M) (arena true n 0) part b w w′ r) eq (P .runs (decode M) on (record {
+          room = H .room;
+          live = λ _. record { safe = subst (Safe q) (sym (H .nodes)) (subst (λ p. Safe p (decode M)) (sym eq) s); work = H .right };
+        }))))
+
+    -- what the program wrote is within the memory
+    pub within-memory : (n ≤ r .n) × (r .n ≤ 4096) × (head K + arity K * r .n ≤ length (putMid (head K) (length m - head K) m b))
+    within-memory =
+        let W = runs-here .writes in
+        let l : length (putMid (head K) (length m - head K) m b) ≡ head K + length b
+        = ap length (tail-put (head K) m b) ∙ length-append (take (head K) m) b
+        ∙ ap (λ h. h + length b) (length-take-le (head K) m (Y .store .room K .headed)) in (
+          subst (λ n. n ≤ r .n) (sym en) (W .grows),
+          omega (arith, W .most),
+          omega (arith, l, W .long, places-fit (arity K) (body K m) (r .n) (W .most)),
+        )
+
+    pub ran-here : (v : ℕ → Store → Verdict) (m′ : List ℕ) (a : Answer) → v (fields M) (decode M) ≡ runs p
+        → Finished (putMid (head K) (length m - head K) m b) m′ (head K) (arity K) n r a → told a (with-memory K m′ M) ≡ on-store v M
+    ran-here v m′ a e F =
+        ran-on v M (Y .store) K p (putMid (head K) (length m - head K) m b) m′ b w w′ r a e runs-here (tail-put (head K) m b)
+        (subst (λ n. Finished (putMid (head K) (length m - head K) m b) m′ (head K) (arity K) n r a) en F)

@@ -1,0 +1,15 @@
+-- `finish` answers by the run's end: from what `commit` leaves.
+use mathlib.Core.Path.{refl, sym, _∙_}
+use borrow.Author.Needs.{needs}
+use Rattle.memory.proofs.Steps.{false≢true}
+use Rattle.outcomes.proofs.finish.finish.Statement.{statement}
+use Rattle.outcomes.proofs.finish.finish.Tie as tie
+
+returns : tie.Need-returns
+returns c = record { fitted = λ t. (refl, c .before .before .before .commit .ensures .fitted t); full = λ f. absurd (false≢true (sym f ∙ c .if1 .taken)) }
+
+returns-2 : tie.Need-returns-2
+returns-2 c = record { fitted = λ t. absurd (false≢true (sym (c .if1 .left) ∙ t)); full = λ f. (refl, c .before .before .before .commit .ensures .full f) }
+
+pub finish-spec : {M : Type 1} → statement M
+finish-spec = tie.close (tie.spec (λ c κs. search needs) (λ c. search needs) returns (λ c. search needs) returns-2)

@@ -1,0 +1,15 @@
+-- `field` goes on where the field is below k and the value is 0 or 1.
+use mathlib.Core.Path.{_∙_}
+use native.Mathlib.Omega.{arith}
+use borrow.Author.Tests.{lt-ltb, le-ltb}
+use Rattle.outcomes.proofs.Handles.{provided-yes, provided-no}
+use Rattle.outcomes.proofs.operands.field.Statement.{statement}
+use Rattle.outcomes.proofs.operands.field.Tie as tie
+
+pub field-spec : {M : Type 1} → statement M
+field-spec =
+    tie.close
+    (tie.spec
+    (λ c. (λ v. provided-no _ _ _ (le-ltb _ _ (c .if1 .taken)), tt))
+    (λ c. (λ v. provided-yes _ _ _ (lt-ltb _ _ (c .before .if1 .left)) ∙ provided-no _ _ _ (le-ltb _ _ (c .if2 .taken)), tt))
+    (λ c. (λ v. provided-yes _ _ _ (lt-ltb _ _ (c .before .if1 .left)) ∙ provided-yes _ _ _ (lt-ltb _ _ (c .if2 .left)), omega arith)))

@@ -1,0 +1,109 @@
+-- `packets` goes on with the operand's level where both packets are numbers below 2 to the power of it.
+use mathlib.Core.Path.{_≡_, refl, subst, _∙_}
+use mathlib.Core.Bool.{true, false}
+use Prim.Native.Nat.{ℕ, _^_, _<_, _≤_}
+use native.Mathlib.Omega.{arith}
+use lib.Dec.{ltb}
+use borrow.Author.Needs.{needs}
+use borrow.Author.Tests.{lt-ltb, le-ltb}
+use Rattle.nodes.specs.Store.{rel}
+use Rattle.outcomes.specs.Checking.{checked, Low}
+use Rattle.outcomes.specs.Outcome.{Verdict, declines, provided}
+use Rattle.outcomes.specs.declared.Check.{Check}
+use Rattle.outcomes.specs.declared.Check.the-variants.{Level}
+use Rattle.outcomes.specs.declared.Refusal.the-variants.{OutOfRange}
+use Rattle.outcomes.proofs.Handles.{then-no, then-yes, still-no, provided-yes, provided-no}
+use Rattle.outcomes.proofs.operands.packets.Statement.{statement}
+use Rattle.outcomes.proofs.operands.packets.Tie as tie
+
+-- a packet against the power of 2 that was computed
+too-big : (x w p l n : ℕ) → w ≡ x → p ≡ 2 ^ n → n ≡ l → p ≤ w → ltb x (2 ^ l) ≡ false
+too-big x w p l n e f g h = le-ltb x (2 ^ l) (subst (λ l. 2 ^ l ≤ x) g (omega (arith, e, f)))
+
+in-range : (x w p l n : ℕ) → w ≡ x → p ≡ 2 ^ n → n ≡ l → w < p → ltb x (2 ^ l) ≡ true
+in-range x w p l n e f g h = lt-ltb x (2 ^ l) (subst (λ l. x < 2 ^ l) g (omega (arith, e, f)))
+
+-- the operand's level is at most 32
+level-low : (c : tie.After-check) → c .check .given .0 .0 ≤ 32
+level-low c =
+    let c4 = c .before .before .before .before in
+    let h = subst (Low _) (c .check .given .1) (c .before .before .one .ensures rel refl .low) in omega (arith, c4 .pre)
+
+-- the first packet is out of range, the second is, or none
+module _ {X : Verdict} {r : Check} (l n x y w p : ℕ) (v : ℕ → Verdict)
+    (C : X ≡ checked r (λ l. provided OutOfRange (ltb x (2 ^ l)) (provided OutOfRange (ltb y (2 ^ l)) (v l))))
+    (e : r ≡ Level l) (en : n ≡ l) (ew : w ≡ x) (ep : p ≡ 2 ^ n) where
+  first-out : p ≤ w → X ≡ declines OutOfRange
+  first-out h = then-no _ (λ l. ltb x (2 ^ l)) (λ l. provided OutOfRange (ltb y (2 ^ l)) (v l)) C l e (too-big x w p l n ew ep en h)
+
+  module _ (u : ℕ) (h : w < p) (eu : u ≡ y) where
+    first-in : X ≡ provided OutOfRange (ltb y (2 ^ l)) (v l)
+    first-in = then-yes _ (λ l. ltb x (2 ^ l)) (λ l. provided OutOfRange (ltb y (2 ^ l)) (v l)) C l e (in-range x w p l n ew ep en h)
+
+    second-out : p ≤ u → X ≡ declines OutOfRange
+    second-out g = first-in ∙ provided-no _ _ _ (too-big y u p l n eu ep en g)
+
+    both-in : u < p → X ≡ v l
+    both-in g = first-in ∙ provided-yes _ _ _ (in-range y u p l n eu ep en g)
+
+returns : tie.Need-returns
+returns c =
+    let c3 = c .before .before .before in
+    let c5 = c3 .before .before in
+    let c7 = c5 .before .before in
+    record {
+      says = λ B f F v.
+          first-out _ _ _ _ _ _ v (c7 .one .ensures rel refl .says B f F _) (c5 .check .given .1) (c3 .narrow .ensures) (c .before .wide .ensures)
+          (c .before .before .power .ensures) (c .if1 .taken);
+      low = tt;
+    }
+
+returns-2 : tie.Need-returns-2
+returns-2 c =
+    let c3 = c .before .before .before in
+    let c5 = c3 .before .before in
+    let c7 = c5 .before .before in
+    let c9 = c7 .before .before in
+    record {
+      says = λ B f F v.
+          second-out _ _ _ _ _ _ v (c9 .one .ensures rel refl .says B f F _) (c7 .check .given .1) (c5 .narrow .ensures) (c3 .wide .ensures)
+          (c3 .before .power .ensures) _ (c .before .before .if1 .left) (c .before .wide2 .ensures) (c .if2 .taken);
+      low = tt;
+    }
+
+returns-3 : tie.Need-returns-3
+returns-3 c =
+    let c3 = c .before .before .before in
+    let c5 = c3 .before .before in
+    let c7 = c5 .before .before in
+    let c9 = c7 .before .before in
+    record {
+      says = λ B f F v.
+          both-in _ _ _ _ _ _ v (c9 .one .ensures rel refl .says B f F _) (c7 .check .given .1) (c5 .narrow .ensures) (c3 .wide .ensures)
+          (c3 .before .power .ensures) _ (c .before .before .if1 .left) (c .before .wide2 .ensures) (c .if2 .left);
+      low = subst (Low _) (c7 .check .given .1) (c9 .one .ensures rel refl .low);
+    }
+
+returns-4 : tie.Need-returns-4
+returns-4 c =
+    record {
+      says = λ B f F v. still-no _ _ v (c .enum-told .given .1) (c .before .before .one .ensures rel refl .says B f F _);
+      low =
+          c .before .before .one .ensures rel refl .low;
+    }
+
+pub packets-spec : {M : Type 1} → statement M
+packets-spec =
+    tie.close
+    (tie.spec
+    (λ c κs. search needs)
+    (λ c. search needs)
+    (λ c κs. let h = level-low (c .before) in omega arith)
+    (λ c κs. let h = level-low (c .before .before) in omega (arith, c .narrow .ensures))
+    (λ c κs. search needs)
+    returns
+    (λ c κs. search needs)
+    returns-2
+    (λ c. search needs)
+    returns-3
+    returns-4)

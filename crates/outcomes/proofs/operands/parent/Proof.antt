@@ -1,0 +1,36 @@
+-- `parent` goes on with the operand's level where it is above 0.
+use mathlib.Core.Path.{subst}
+use native.Mathlib.Omega.{arith}
+use lib.Dec.{ltb}
+use borrow.Author.Needs.{needs}
+use borrow.Author.Tests.{lt-ltb, le-ltb}
+use Rattle.outcomes.specs.Checking.{Low}
+use Rattle.outcomes.proofs.Handles.{then-no, then-yes, still-no}
+use Rattle.outcomes.proofs.operands.parent.Statement.{statement}
+use Rattle.outcomes.proofs.operands.parent.Tie as tie
+
+pub parent-spec : {M : Type 1} → statement M
+parent-spec =
+    tie.close
+    (tie.spec
+    (λ c κs. search needs)
+    (λ c. search needs)
+    (λ c K e. record {
+      says = λ B f F v.
+          let l = c .before .before .check .given .0 .0 in
+          then-no _ (ltb 0) v (c .before .before .before .before .one .ensures K e .says B f F _) l (c .before .before .check .given .1)
+          (le-ltb 0 l (omega (arith, c .if1 .taken)));
+      low = tt;
+    })
+    (λ c. search needs)
+    (λ c K e. record {
+      says = λ B f F v.
+          let l = c .before .before .check .given .0 .0 in
+          then-yes _ (ltb 0) v (c .before .before .before .before .one .ensures K e .says B f F _) l (c .before .before .check .given .1)
+          (lt-ltb 0 l (omega (arith, c .if1 .left)));
+      low = subst (Low _) (c .before .before .check .given .1) (c .before .before .before .before .one .ensures K e .low);
+    })
+    (λ c K e. record {
+      says = λ B f F v. still-no _ _ v (c .enum-told .given .1) (c .before .before .one .ensures K e .says B f F _);
+      low = c .before .before .one .ensures K e .low;
+    }))

@@ -1,0 +1,5 @@
+pub mod Answers
+pub mod Outcome
+pub mod OnMemories
+pub mod Checking
+pub mod Finishing

@@ -1,0 +1,30 @@
+-- An answer as one number, and its children as numbers.
+use mathlib.Core.List.{List}
+use Prim.Native.Nat.{ℕ, _+_, _*_, _^_}
+use lib.ListN.{getD, set as put}
+use Rattle.outcomes.specs.Answers.{refusal, values}
+use Rattle.outcomes.specs.declared.Answer.{Answer}
+use Rattle.outcomes.specs.declared.Answer.the-variants.{Handle, Truth, SetNode, RelationNode, Declined}
+
+-- the refusal's number in the high half, the first value in the low half, 0 where there is none
+abbrev pub halves : ℕ → List ℕ → ℕ
+halves r vs = r * 2 ^ 32 + getD vs 0 0
+
+abbrev pub packed : Answer → ℕ
+packed a = halves (refusal a) (values a)
+
+-- the two numbers lent for a set's children after a call: written where it gives them
+abbrev pub filled-set : Answer → List ℕ → List ℕ
+filled-set (Handle h) c = c
+filled-set (Truth b) c = c
+filled-set (SetNode x0 x1) c = put (put c 0 x0) 1 x1
+filled-set (RelationNode x00 x01 x10 x11) c = c
+filled-set (Declined r) c = c
+
+-- the four numbers lent for a relation's children, likewise
+abbrev pub filled-relation : Answer → List ℕ → List ℕ
+filled-relation (Handle h) c = c
+filled-relation (Truth b) c = c
+filled-relation (SetNode x0 x1) c = c
+filled-relation (RelationNode x00 x01 x10 x11) c = put (put (put (put c 0 x00) 1 x01) 2 x10) 3 x11
+filled-relation (Declined r) c = c
