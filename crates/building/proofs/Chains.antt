@@ -4,6 +4,7 @@ use mathlib.Core.List.{List, [], _∷_, _++_, append-assoc, append-nil}
 use Prim.Native.Nat.{ℕ, _+_}
 use lib.ListN.{getD, drop}
 use Rattle.nodes.specs.Policies.{Policy, plus, seq, stars}
+use Rattle.texts.specs.Lexicon.{Lexicon}
 use Rattle.texts.specs.Grammar.{Atom, Starred, Product, Sum, s-atom, s-star, p-one, p-seq, u-one, u-plus}
 use Rattle.texts.specs.Grammar.{a-zero, a-one, a-test, a-assign, a-neg, a-paren}
 use Rattle.building.proofs.Suffixes.{first-of, next}
@@ -52,8 +53,8 @@ Starring q u p = (u ≡ []) × (p ≡ stars q)
 abbrev pub Joining : (Policy → Policy → Policy) → (List ℕ → Policy → Type 0) → Step
 Joining join Item q u p = (r : Policy) × Item u r × (p ≡ join q r)
 
-pub starred-begun : {d : ℕ} {u : List ℕ} {p : Policy} → Starred d u p → Begun (Atom d) 42 Starring u p
-starred-begun x = elim x as (λ d u p x. Unit {0}) (λ d u p x. Begun (Atom d) 42 Starring u p) (λ d u p x. Unit {0}) (λ d u p x. Unit {0}) [
+pub starred-begun : {X : Lexicon} {d : ℕ} {u : List ℕ} {p : Policy} → Starred X d u p → Begun (Atom X d) 42 Starring u p
+starred-begun {X} x = elim x as (λ d u p x. Unit {0}) (λ d u p x. Begun (Atom X d) 42 Starring u p) (λ d u p x. Unit {0}) (λ d u p x. Unit {0}) [
   | a-zero ↦ tt
   | a-one ↦ tt
   | a-test f b ↦ tt
@@ -68,37 +69,39 @@ starred-begun x = elim x as (λ d u p x. Unit {0}) (λ d u p x. Begun (Atom d) 4
   | u-plus (x → h) (y → k) ↦ tt
 ]
 
-pub product-begun : {d : ℕ} {u : List ℕ} {p : Policy} → Product d u p → Begun (Starred d) 59 (Joining seq (Starred d)) u p
-product-begun x = elim x as (λ d u p x. Unit {0}) (λ d u p x. Unit {0}) (λ d u p x. Begun (Starred d) 59 (Joining seq (Starred d)) u p) (λ d u p x. Unit {0}) [
-  | a-zero ↦ tt
-  | a-one ↦ tt
-  | a-test f b ↦ tt
-  | a-assign f b ↦ tt
-  | a-neg l (x → h) ↦ tt
-  | a-paren l (x → h) ↦ tt
-  | s-atom (x → h) ↦ tt
-  | s-star (x → h) ↦ tt
-  | p-one (x → h) ↦ single x
-  | p-seq (x → h) (y → k) ↦ longer h (_, y, refl)
-  | u-one (x → h) ↦ tt
-  | u-plus (x → h) (y → k) ↦ tt
-]
+pub product-begun : {X : Lexicon} {d : ℕ} {u : List ℕ} {p : Policy} → Product X d u p → Begun (Starred X d) 59 (Joining seq (Starred X d)) u p
+product-begun {X} x = elim x as (λ d u p x. Unit {0}) (λ d u p x. Unit {0}) (λ d u p x. Begun (Starred X d) 59 (Joining seq (Starred X d)) u p)
+    (λ d u p x. Unit {0}) [
+      | a-zero ↦ tt
+      | a-one ↦ tt
+      | a-test f b ↦ tt
+      | a-assign f b ↦ tt
+      | a-neg l (x → h) ↦ tt
+      | a-paren l (x → h) ↦ tt
+      | s-atom (x → h) ↦ tt
+      | s-star (x → h) ↦ tt
+      | p-one (x → h) ↦ single x
+      | p-seq (x → h) (y → k) ↦ longer h (_, y, refl)
+      | u-one (x → h) ↦ tt
+      | u-plus (x → h) (y → k) ↦ tt
+    ]
 
-pub sum-begun : {d : ℕ} {u : List ℕ} {p : Policy} → Sum d u p → Begun (Product d) 43 (Joining plus (Product d)) u p
-sum-begun x = elim x as (λ d u p x. Unit {0}) (λ d u p x. Unit {0}) (λ d u p x. Unit {0}) (λ d u p x. Begun (Product d) 43 (Joining plus (Product d)) u p) [
-  | a-zero ↦ tt
-  | a-one ↦ tt
-  | a-test f b ↦ tt
-  | a-assign f b ↦ tt
-  | a-neg l (x → h) ↦ tt
-  | a-paren l (x → h) ↦ tt
-  | s-atom (x → h) ↦ tt
-  | s-star (x → h) ↦ tt
-  | p-one (x → h) ↦ tt
-  | p-seq (x → h) (y → k) ↦ tt
-  | u-one (x → h) ↦ single x
-  | u-plus (x → h) (y → k) ↦ longer h (_, y, refl)
-]
+pub sum-begun : {X : Lexicon} {d : ℕ} {u : List ℕ} {p : Policy} → Sum X d u p → Begun (Product X d) 43 (Joining plus (Product X d)) u p
+sum-begun {X} x = elim x as (λ d u p x. Unit {0}) (λ d u p x. Unit {0}) (λ d u p x. Unit {0})
+    (λ d u p x. Begun (Product X d) 43 (Joining plus (Product X d)) u p) [
+      | a-zero ↦ tt
+      | a-one ↦ tt
+      | a-test f b ↦ tt
+      | a-assign f b ↦ tt
+      | a-neg l (x → h) ↦ tt
+      | a-paren l (x → h) ↦ tt
+      | s-atom (x → h) ↦ tt
+      | s-star (x → h) ↦ tt
+      | p-one (x → h) ↦ tt
+      | p-seq (x → h) (y → k) ↦ tt
+      | u-one (x → h) ↦ single x
+      | u-plus (x → h) (y → k) ↦ longer h (_, y, refl)
+    ]
 
 -- WHAT STANDS AHEAD of a chain in the text: its next step, or the rest
 pub record Next (b : ℕ) (St : Step) (t : List ℕ) (e : ℕ) (q p : Policy) (rest : List ℕ) : Type 0 where

@@ -8,7 +8,7 @@ use lib.Dec.{leb}
 use lib.ListN.{length, getD, drop}
 use borrow.Author.Tests.{le-leb, leb-true}
 use Rattle.memory.proofs.Steps.{false≢true}
-use Rattle.texts.specs.Grammar.{Field, f-zero, f-one, f-two}
+use Rattle.texts.specs.XForms.{Field, f-zero, f-one, f-two}
 use Rattle.building.specs.Items.{ReadsNumber}
 use Rattle.building.specs.declared.items.Number.{Number}
 use Rattle.building.proofs.Suffixes.{first-of, first-is, next}

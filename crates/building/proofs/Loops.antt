@@ -12,6 +12,7 @@ use Rattle.nodes.specs.Policies.{Policy, plus, seq, policy-program}
 use Rattle.memory.specs.Arena.{Performs}
 use Rattle.memory.specs.declared.Arena.{Arena}
 use Rattle.memory.proofs.Steps.{performs-then, performs-by}
+use Rattle.texts.specs.Lexicon.{Lexicon}
 use Rattle.texts.specs.Grammar.{Atom, Starred, Product, Sum}
 use Rattle.building.specs.Building.{Rank, Builds, BuildsText, after-atom, after-starred, after-product, after-sum}
 use Rattle.building.specs.declared.Built.{Built}
@@ -28,13 +29,13 @@ pub record Looped (G Item : Rank) (After Below : ℕ → Type 0) (b : ℕ) (St :
 abbrev pub joined : (Policy → Policy → Policy) → Rank → ℕ → Step
 joined join Item d = Joining join (Item d)
 
-pub starred-looped : Looped Starred Atom after-starred after-atom 42 (λ d. Starring)
+pub starred-looped : {X : Lexicon} → Looped (Starred X) (Atom X) after-starred after-atom 42 (λ d. Starring)
 starred-looped = record { begun = λ d u p. starred-begun; below = λ x n. tt; starts = tt; apart = λ x n. n }
 
-pub product-looped : Looped Product Starred after-product after-starred 59 (joined seq Starred)
+pub product-looped : {X : Lexicon} → Looped (Product X) (Starred X) after-product after-starred 59 (joined seq (Starred X))
 product-looped = record { begun = λ d u p. product-begun; below = λ x n. n .0; starts = λ e. omega (arith, e); apart = λ x n. n .1 }
 
-pub sum-looped : Looped Sum Product after-sum after-product 43 (joined plus Product)
+pub sum-looped : {X : Lexicon} → Looped (Sum X) (Product X) after-sum after-product 43 (joined plus (Product X))
 sum-looped = record {
   begun = λ d u p. sum-begun;
   below = λ x n. (n .0, n .1);
@@ -130,13 +131,13 @@ module _ {G Item : Rank} {After Below : ℕ → Type 0} {b : ℕ} {join : Policy
   }
 
 -- a star's turn
-abbrev pub StarCarried : ℕ → List ℕ → ℕ → List ℕ → List ℕ → Built → List ℕ → List ℕ → Built → Type 0
-StarCarried = Carried Starred after-starred 42 (λ d. Starring)
+abbrev pub StarCarried : Lexicon → ℕ → List ℕ → ℕ → List ℕ → List ℕ → Built → List ℕ → List ℕ → Built → Type 0
+StarCarried X = Carried (Starred X) after-starred 42 (λ d. Starring)
 
-module _ {k : ℕ} {t : List ℕ} {at : ℕ} {m₁ m₂ w₁ w₂ : List ℕ} {p r : Built} (f : getD t (p .end) 0 ≡ 42) (l : p .end + 1 ≤ length t)
+module _ {X : Lexicon} {k : ℕ} {t : List ℕ} {at : ℕ} {m₁ m₂ w₁ w₂ : List ℕ} {p r : Built} (f : getD t (p .end) 0 ≡ 42) (l : p .end + 1 ≤ length t)
     (P : Performs rel (star k (p .made .h)) (p .made) m₁ m₂ w₁ w₂ (r .made)) (e : r .end ≡ p .end + 1) where
-  stars-on : {s : Arena} {m w : List ℕ} → Looping Starred after-starred 42 (λ d. Starring) k t at s m m₁ w w₁ p
-      → Looping Starred after-starred 42 (λ d. Starring) k t at s m m₂ w w₂ r
+  stars-on : {s : Arena} {m w : List ℕ} → Looping (Starred X) after-starred 42 (λ d. Starring) k t at s m m₁ w w₁ p
+      → Looping (Starred X) after-starred 42 (λ d. Starring) k t at s m m₂ w w₂ r
   unfolding policy-program
   stars-on B = record {
     from = omega (arith, B .from, e);
@@ -153,8 +154,8 @@ module _ {k : ℕ} {t : List ℕ} {at : ℕ} {m₁ m₂ w₁ w₂ : List ℕ} {p
         };
   }
 
-  pub loop-stars : {m₀ w₀ : List ℕ} {r₀ : Built} → StarCarried k t at m₀ w₀ r₀ m₁ w₁ p → length m₂ ≡ length m₀ → length w₂ ≡ length w₀
-      → StarCarried k t at m₀ w₀ r₀ m₂ w₂ r
+  pub loop-stars : {m₀ w₀ : List ℕ} {r₀ : Built} → StarCarried X k t at m₀ w₀ r₀ m₁ w₁ p → length m₂ ≡ length m₀ → length w₂ ≡ length w₀
+      → StarCarried X k t at m₀ w₀ r₀ m₂ w₂ r
   loop-stars C i v = record { from = omega (arith, C .from, e); within = omega (arith, l, e); long = i; wide = v; on = λ s n u K. stars-on (C .on s n u K) }
 
 -- the programs of a product and a sum
@@ -167,8 +168,8 @@ unfolding policy-program
 plus-program k x y = refl
 
 -- a text that is a sum, to its end
-pub text-builds : {k : ℕ} {t : List ℕ} {s : Arena} {m m′ w w′ : List ℕ} {r : Built} → Builds Sum after-sum k t 0 s m m′ w w′ r
-    → BuildsText k t s m m′ w w′ (r .made)
+pub text-builds : {X : Lexicon} {k : ℕ} {t : List ℕ} {s : Arena} {m m′ w w′ : List ℕ} {r : Built} → Builds (Sum X) after-sum k t 0 s m m′ w w′ r
+    → BuildsText X k t s m m′ w w′ (r .made)
 text-builds {t = t} B = record {
   builds = λ d p S. B .part d t p [] S (sym (append-nil t)) (λ e. omega (arith, e), λ e. omega (arith, e), λ e. omega (arith, e)) .performs;
 }

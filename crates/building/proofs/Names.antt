@@ -11,7 +11,8 @@ use Rattle.nodes.specs.Operations.{test, assign}
 use Rattle.nodes.specs.Policies.{Policy, tests, assigns, policy-program}
 use Rattle.memory.specs.Arena.{Performs}
 use Rattle.memory.specs.declared.Arena.{Arena}
-use Rattle.texts.specs.Grammar.{Field, Bit, b-zero, b-one, Atom, a-zero, a-one, a-test, a-assign, a-neg, a-paren}
+use Rattle.texts.specs.XForms.{Field, x-form, x-forms}
+use Rattle.texts.specs.Grammar.{Bit, b-zero, b-one, Atom, a-zero, a-one, a-test, a-assign, a-neg, a-paren}
 use Rattle.building.specs.Items.{Past, ReadsNumber}
 use Rattle.building.specs.Building.{built, Named, BuildsPart, Builds, after-atom}
 use Rattle.building.specs.declared.items.Number.{Number}
@@ -22,14 +23,15 @@ data After (t : List ℕ) (at : ℕ) (rest : List ℕ) : Policy → Type 0 where
   a-tests : {f : List ℕ} {n c : ℕ} {v : Bool} → Field f n → Bit c v → drop at t ≡ f ++ (61 ∷ c ∷ rest) → After t at rest (tests n v)
   a-assigns : {f : List ℕ} {n c : ℕ} {v : Bool} → Field f n → Bit c v → drop at t ≡ f ++ (58 ∷ 61 ∷ c ∷ rest) → After t at rest (assigns n v)
 
-after-name : (t : List ℕ) (at : ℕ) (rest : List ℕ) {d : ℕ} {v u : List ℕ} {p : Policy} → Atom d v p → v ≡ 120 ∷ u → drop at t ≡ u ++ rest → After t at rest p
+after-name : (t : List ℕ) (at : ℕ) (rest : List ℕ) {d : ℕ} {v u : List ℕ} {p : Policy} → Atom x-forms d v p → v ≡ 120 ∷ u → drop at t ≡ u ++ rest
+    → After t at rest p
 after-name t at rest a-zero e h = absurd (omega (arith, ap (λ x. getD x 0 0) e))
 after-name t at rest a-one e h = absurd (omega (arith, ap (λ x. getD x 0 0) e))
 after-name t at rest (a-neg l A) e h = absurd (omega (arith, ap (λ x. getD x 0 0) e))
 after-name t at rest (a-paren l A) e h = absurd (omega (arith, ap (λ x. getD x 0 0) e))
-after-name t at rest (a-test {c = c} {f = f} F B) e h =
+after-name t at rest (a-test {c = c} (x-form {f = f} F) B) e h =
     a-tests F B (h ∙ ap (λ x. drop 1 x ++ rest) (sym e) ∙ append-assoc f (61 ∷ c ∷ []) rest)
-after-name t at rest (a-assign {c = c} {f = f} F B) e h =
+after-name t at rest (a-assign {c = c} (x-form {f = f} F) B) e h =
     a-assigns F B (h ∙ ap (λ x. drop 1 x ++ rest) (sym e) ∙ append-assoc f (58 ∷ 61 ∷ c ∷ []) rest)
 
 bit-is : {c : ℕ} {v : Bool} → Bit c v → eqb c 49 ≡ v

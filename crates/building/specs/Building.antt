@@ -7,6 +7,8 @@ use Rattle.nodes.specs.Store.{rel}
 use Rattle.nodes.specs.Policies.{Policy, policy-program}
 use Rattle.memory.specs.Arena.{Performs}
 use Rattle.memory.specs.declared.Arena.{Arena}
+use Rattle.texts.specs.Lexicon.{Lexicon}
+use Rattle.texts.specs.XForms.{x-forms}
 use Rattle.texts.specs.Grammar.{Atom, Sum}
 use Rattle.building.specs.declared.Built.{Built}
 
@@ -19,7 +21,7 @@ Rank = ℕ → List ℕ → Policy → Type 0
 
 -- a test or an assignment, after its `x`
 abbrev pub Named : Rank
-Named d u p = Atom d (120 ∷ u) p
+Named d u p = Atom x-forms d (120 ∷ u) p
 
 -- the bytes that may stand after a part, which is not gone on with by them
 abbrev pub after-atom : ℕ → Type 0
@@ -47,5 +49,5 @@ pub record Builds (G : Rank) (After : ℕ → Type 0) (k : ℕ) (t : List ℕ) (
       → BuildsPart k t p rest s m m′ w w′ r
 
 -- a whole text: whatever policy it is of, that policy's program is run
-pub record BuildsText (k : ℕ) (t : List ℕ) (s : Arena) (m m′ w w′ : List ℕ) (r : Arena) : Type 0 where
-  pub builds : (d : ℕ) (p : Policy) → Sum d t p → Performs rel (policy-program k p) s m m′ w w′ r
+pub record BuildsText (X : Lexicon) (k : ℕ) (t : List ℕ) (s : Arena) (m m′ w w′ : List ℕ) (r : Arena) : Type 0 where
+  pub builds : (d : ℕ) (p : Policy) → Sum X d t p → Performs rel (policy-program k p) s m m′ w w′ r

@@ -3,7 +3,7 @@ use mathlib.Core.Path.{_≡_}
 use mathlib.Core.List.{List, _++_}
 use Prim.Native.Nat.{ℕ, _+_, _≤_, _<_}
 use lib.ListN.{length, getD, drop}
-use Rattle.texts.specs.Grammar.{Field}
+use Rattle.texts.specs.XForms.{Field}
 use Rattle.building.specs.declared.items.Number.{Number}
 
 -- r is the offset after this one, or the text's length

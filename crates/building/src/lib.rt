@@ -2,6 +2,7 @@
 ghost use mathlib.Core.Path.{_≡_};
 ghost use Prim.Native.Nat.{_≤_};
 ghost use lib.ListN.{length, getD};
+ghost use Rattle.texts.specs.XForms.{x-forms};
 ghost use Rattle.texts.specs.Grammar.{Atom, Starred, Product, Sum};
 ghost use Rattle.building.specs.Building.{Builds, BuildsText, Named, after-atom, after-starred, after-product, after-sum};
 
@@ -52,7 +53,7 @@ fn leaf(
     k: u8,
 ) -> Built
     requires { ⌜ (at ≤ length (now text)) × (¬ (getD (now text) at 0 ≡ 33)) × (¬ (getD (now text) at 0 ≡ 40)) ⌝ }
-    ensures { λ r. ⌜ Builds Atom after-atom k (now (text .entry)) at s
+    ensures { λ r. ⌜ Builds (Atom x-forms) after-atom k (now (text .entry)) at s
         (now (nodes .entry)) (now (nodes .exit)) (now (work .entry)) (now (work .exit)) r ⌝ }
 {
     let b = crate::items::byte(text, at);
@@ -78,7 +79,7 @@ fn atom(
     k: u8,
 ) -> Built
     requires { ⌜ at ≤ length (now text) ⌝ }
-    ensures { λ r. ⌜ Builds Atom after-atom k (now (text .entry)) at s
+    ensures { λ r. ⌜ Builds (Atom x-forms) after-atom k (now (text .entry)) at s
         (now (nodes .entry)) (now (nodes .exit)) (now (work .entry)) (now (work .exit)) r ⌝ }
 {
     let b = crate::items::byte(text, at);
@@ -114,7 +115,7 @@ fn starred(
     k: u8,
 ) -> Built
     requires { ⌜ at ≤ length (now text) ⌝ }
-    ensures { λ r. ⌜ Builds Starred after-starred k (now (text .entry)) at s
+    ensures { λ r. ⌜ Builds (Starred x-forms) after-starred k (now (text .entry)) at s
         (now (nodes .entry)) (now (nodes .exit)) (now (work .entry)) (now (work .exit)) r ⌝ }
 {
     let p = atom(text, at, nodes, work, s, k);
@@ -140,7 +141,7 @@ fn product(
     k: u8,
 ) -> Built
     requires { ⌜ at ≤ length (now text) ⌝ }
-    ensures { λ r. ⌜ Builds Product after-product k (now (text .entry)) at s
+    ensures { λ r. ⌜ Builds (Product x-forms) after-product k (now (text .entry)) at s
         (now (nodes .entry)) (now (nodes .exit)) (now (work .entry)) (now (work .exit)) r ⌝ }
 {
     let p = starred(text, at, nodes, work, s, k);
@@ -168,7 +169,7 @@ fn sum(
     k: u8,
 ) -> Built
     requires { ⌜ at ≤ length (now text) ⌝ }
-    ensures { λ r. ⌜ Builds Sum after-sum k (now (text .entry)) at s
+    ensures { λ r. ⌜ Builds (Sum x-forms) after-sum k (now (text .entry)) at s
         (now (nodes .entry)) (now (nodes .exit)) (now (work .entry)) (now (work .exit)) r ⌝ }
 {
     let p = product(text, at, nodes, work, s, k);
@@ -194,7 +195,7 @@ pub fn build(
     s: memory::Arena,
     k: u8,
 ) -> memory::Arena
-    ensures { λ r. ⌜ BuildsText k (now (text .entry)) s
+    ensures { λ r. ⌜ BuildsText x-forms k (now (text .entry)) s
         (now (nodes .entry)) (now (nodes .exit)) (now (work .entry)) (now (work .exit)) r ⌝ }
 {
     let p = sum(text, 0, nodes, work, s, k);

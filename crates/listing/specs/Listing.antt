@@ -7,7 +7,7 @@ use lib.ListN.{length, replicate}
 use Rattle.nodes.specs.Store.{set, rel, pick}
 use Rattle.judging.specs.Memory.{Memories, memories, count}
 use Rattle.outcomes.specs.OnMemories.{new-step}
-use Rattle.texts.specs.Machine.{digit?}
+use Rattle.texts.specs.XForms.{digit?}
 use Rattle.policies.specs.Answers.{policy-number, policy-values}
 use Rattle.policies.specs.Outcome.{policy-step}
 use Rattle.policies.specs.declared.PolicyAnswer.{PolicyAnswer}

@@ -15,15 +15,15 @@ use Rattle.judging.specs.Memory.{Memories, fields, decode}
 use Rattle.store.specs.Calls.{new-store, step}
 use Rattle.outcomes.specs.OnMemories.{set-places, rel-places}
 use Rattle.meanings.specs.Lists.{in-turn, AllGoOn, ListRight, Lasts, answer-of, left-by, after-new, beside-it}
-use Rattle.outcomes.specs.Outcome.{told}
-use Rattle.meanings.specs.PlainStore.{plain-store, plain-policy-step}
+use Rattle.outcomes.specs.Outcome.{told, concludes}
+use Rattle.meanings.specs.PlainStore.{plain-store, on-lists, plain-policy-step}
 use Rattle.outcomes.specs.declared.Answer.the-variants as store
 use Rattle.outcomes.specs.declared.Refusal.the-variants.{UsedUp}
 use Rattle.meanings.proofs.InTurn.{turn-parted, each-before}
 use Rattle.meanings.proofs.Lists.{lists-right}
 use Rattle.meanings.specs.EveryList.{AnyCall, policy, any-step, all-calls, text-relates, Keeps, policy-of}
 use Rattle.meanings.specs.EveryList.{answer-after, AcceptedIn, plain-run, TextsRight}
-use Rattle.policies.specs.Outcome.{text-verdict, text-concludes, policy-step}
+use Rattle.policies.specs.Outcome.{refused, text-verdict, policy-step}
 use Rattle.policies.specs.declared.PolicyAnswer.the-variants.{Handle, Declined}
 use Rattle.policies.specs.declared.PolicyRefusal.the-variants.{Store}
 use Rattle.meanings.proofs.AllCalls.{policy-alike, any-right}
@@ -33,10 +33,10 @@ use Rattle.meanings.proofs.KeptTexts.{kept-builds}
 -- the answer of a policy that is built
 built-answer : {X : Type 0} (m n k : ℕ) (t : List ℕ) (r : Keeps k t) (S : Nodes) (x : X) (put : Nodes → X)
     → (let R = run (policy-program k (policy-of r)) S in
-    text-concludes m n (text-verdict t k) S x put .answer ≡ pick (fits-places m n (R .store)) (Handle (R .value)) (Declined (Store UsedUp)))
-unfolding text-concludes
+    concludes (refused UsedUp) m n (text-verdict t k S) S x put .answer ≡ pick (fits-places m n (R .store)) (Handle (R .value)) (Declined (Store UsedUp)))
+unfolding concludes
 built-answer m n k t r S x put = let R = run (policy-program k (policy-of r)) S in
-    ap (λ v. text-concludes m n v S x put .answer) (kept-builds k t r)
+    ap (λ v. concludes (refused UsedUp) m n v S x put .answer) (kept-builds k t S r)
     ∙ by-test (λ b. pick b (told (Handle (R .value)) (put (R .store))) (told (Declined (Store UsedUp)) x) .answer
     ≡ pick b (Handle (R .value)) (Declined (Store UsedUp)))
     (fits-places m n (R .store)) (λ _. refl) (λ _. refl)
@@ -87,14 +87,15 @@ module _ (k : ℕ) (M₀ : Memories) (z : ℕ) (new : step (new-store k) M₀ .a
     refused-there : (t : List ℕ) (before later : List AnyCall) → cs ≡ before ++ (policy t ∷ later) → (r : Keeps k t)
         → answer-after k M₀ before t ≡ pick (fits-places (set-places M₀) (rel-places M₀) (plain-run k M₀ before (policy-of r) .store))
         (Handle (plain-run k M₀ before (policy-of r) .value)) (Declined (Store UsedUp))
-    unfolding plain-policy-step
+    unfolding plain-policy-step on-lists
     refused-there t before later is r =
         let A = right before .matches in
         let P = beside-it all-calls k M₀ before .state in
         let m = set-places M₀ in
         let n = rel-places M₀ in
         policy-alike A t .answer
-        ∙ ap (λ j. text-concludes m n (text-verdict t j) (P .lists) P (plain-store (P .width)) .answer) (sym (A .width) ∙ width-there t before later is)
+        ∙ ap (λ j. concludes (refused UsedUp) m n (text-verdict t j (P .lists)) (P .lists) P (plain-store (P .width)) .answer)
+        (sym (A .width) ∙ width-there t before later is)
         ∙ built-answer m n k t r (P .lists) P (plain-store (P .width))
 
     -- THE THEOREM

@@ -12,11 +12,11 @@ use Rattle.nodes.proofs.Canonical.{canonical↔}
 use Rattle.nodes.proofs.Extends.{ext-trans, ext-held, ext-walk}
 use Rattle.nodes.proofs.Levels.{level-is}
 use Rattle.store.specs.Calls.{image-call, filter-call, step}
-use Rattle.store.specs.ImageCalls.{filter-verdict}
+use Rattle.store.specs.ImageCalls.{filter-program, filter-verdict}
 use Rattle.store.specs.ImageMeanings.{image-meaning, filter-meaning}
 use Rattle.judging.specs.Memory.{Memories, fields, decode}
 use Rattle.judging.specs.Valid.{IsStore}
-use Rattle.outcomes.specs.declared.Answer.the-variants.{Handle}
+use Rattle.outcomes.specs.declared.Answer.the-variants.{Handle, Declined}
 use Rattle.outcomes.specs.declared.Refusal.the-variants.{NotHeld}
 use Rattle.store.specs.declared.image_calls.ImageCall.the-variants.{Bwd}
 use Rattle.store.specs.declared.filter_calls.FilterCall.the-variants.{Ibwd}
@@ -25,7 +25,8 @@ use Rattle.outcomes.proofs.Handles.{held-here, one-none}
 use Rattle.meanings.proofs.ImageMeans.{image-call-means, filter-call-means}
 use Rattle.store.proofs.ImageSteps.{filter-steps}
 use Rattle.meanings.proofs.OneCall.{not-handle}
-use Rattle.outcomes.proofs.Outcomes.{declined}
+use Rattle.outcomes.specs.Outcome.{runs, going, handle-of}
+use Rattle.outcomes.proofs.Outcomes.{given}
 
 -- the domain of what leads from a set to everything is the set
 domain-of : {l : ℕ} {S S₁ S₂ : Store} {p r h : ℕ} {k : ℕ} → WellFormed k S₂ → Extends S S₂ → Held set S l p → Relates l (λ x y. contains S p x) S₁ r
@@ -41,7 +42,8 @@ module _ (M : Memories) (p r : ℕ) (s : IsStore M) (e : step (filter-call (Ibwd
 
   held-operand : is-held set (decode M) p ≡ true
   held-operand = by-test (λ b. is-held set (decode M) p ≡ b → is-held set (decode M) p ≡ true) (is-held set (decode M) p) (λ _ t. t)
-      (λ _ f. absurd (not-handle (ap (λ t. t .answer) (declined (filter-verdict (Ibwd p)) M s NotHeld (one-none set (s .formed) p _ f)
+      (λ _ f. absurd (not-handle (ap (λ t. t .answer) (given Declined (filter-verdict (Ibwd p)) M s (Declined NotHeld)
+      (ap (λ c. going Declined c (λ l. runs (filter-program l (Ibwd p)) handle-of)) (one-none set (s .formed) p f))
       ∙ sym (filter-steps (Ibwd p) M)) ∙ e))) refl
 
   pub bwd-after-ibwd : (h : ℕ) → step (image-call (Bwd r)) M₁ .answer ≡ Handle h → h ≡ p

@@ -15,7 +15,8 @@ use Rattle.outcomes.specs.OnMemories.{set-places, rel-places, heads?, new-step}
 use Rattle.meanings.specs.Lists.{Matches}
 use Rattle.meanings.specs.PlainStore.{begun}
 use Rattle.judging.specs.Memory.{Memories, memory, head, encode}
-use Rattle.outcomes.specs.Outcome.{runs, provided, Told, told, concludes}
+use Rattle.outcomes.specs.Outcome.{runs, going, handle-of, provided, Told, told, concludes}
+use Rattle.outcomes.specs.declared.Check.the-variants.{Level}
 use Rattle.outcomes.specs.declared.Answer.{Answer}
 use Rattle.outcomes.specs.declared.Answer.the-variants.{Handle, Declined}
 use Rattle.outcomes.specs.declared.Refusal.the-variants.{NotStore, OutOfRange, UsedUp}
@@ -35,7 +36,8 @@ module _ (k : ℕ) (M : Memories) (h : ℕ) where
   Begins t = t .answer ≡ Handle h → (t .answer ≡ Handle (made .value)) × Matches M (t .state) (begun k)
 
   accepted : (b c : Bool) → leb k 32 ≡ b → heads? M ≡ c
-      → Begins (concludes (set-places M) (rel-places M) (provided OutOfRange b (provided NotStore c (runs (new k)))) blank M (λ S. encode k S M))
+      → Begins (concludes (Declined UsedUp) (set-places M) (rel-places M)
+      (going Declined (provided OutOfRange b (provided NotStore c (Level k))) (λ k. runs (new k) handle-of)) blank M (λ S. encode k S M))
   unfolding concludes provided
   accepted false c few there = λ e. absurd (not-handle e)
   accepted true false few there = λ e. absurd (not-handle e)

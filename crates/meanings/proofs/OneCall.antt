@@ -9,7 +9,7 @@ use lib.Dec.{leb, T, leb→le}
 use borrow.Author.Tests.{le-leb}
 use Rattle.nodes.specs.Images.{blank, new}
 use Rattle.nodes.specs.Places.{fits-places}
-use Rattle.nodes.specs.Programs.{Prog, run}
+use Rattle.nodes.specs.Programs.{Prog, Ran, run}
 use Rattle.nodes.specs.Store.{Kind, set, rel, Store, pick}
 use Rattle.nodes.specs.WellFormed.{WellFormed}
 use Rattle.nodes.proofs.Bools.{by-test}
@@ -20,72 +20,75 @@ use Rattle.nodes.proofs.Settle.{run-ext}
 use Rattle.store.specs.Calls.{Call, new-store, set-call, set-read, relation-call, relation-read, image-call, filter-call, path-read}
 use Rattle.store.specs.Calls.{step}
 use Rattle.outcomes.specs.OnMemories.{set-places, rel-places, on-store, heads?, new-step}
-use Rattle.store.specs.ImageCalls.{image-verdict, filter-verdict, path-verdict}
-use Rattle.meanings.specs.Lists.{Refused, Matches, Alike, Grown, store-calls, CallRight}
+use Rattle.store.specs.ImageCalls.{image-declines, image-program, image-verdict, filter-declines, filter-program, filter-verdict, path-declines, path-answer}
+use Rattle.store.specs.ImageCalls.{path-verdict}
+use Rattle.meanings.specs.Lists.{Calling, Refused, Matches, Alike, Grown, store-calls, CallRight}
 use Rattle.meanings.specs.PlainStore.{Plain, plain-store, on-lists, plain-step}
 use Rattle.judging.specs.Memory.{Memories, memory, head, fields, decode, encode}
-use Rattle.outcomes.specs.Outcome.{Verdict, declines, gives, runs, provided, told, concludes}
-use Rattle.store.specs.RelationCalls.{relation-verdict, relation-read-verdict}
-use Rattle.store.specs.SetCalls.{set-verdict, set-read-verdict}
+use Rattle.outcomes.specs.Outcome.{Verdict, gives, runs, going, handle-of, provided, Told, told, retold, concludes}
+use Rattle.store.specs.RelationCalls.{relation-declines, relation-program, relation-verdict, relation-read-declines, relation-read-answer}
+use Rattle.store.specs.RelationCalls.{relation-read-verdict}
+use Rattle.store.specs.SetCalls.{set-declines, set-program, set-verdict, set-read-declines, set-read-answer, set-read-verdict}
+use Rattle.outcomes.specs.declared.Check.{Check}
+use Rattle.outcomes.specs.declared.Check.the-variants.{Level, No}
 use Rattle.outcomes.specs.declared.Answer.the-variants.{Handle, Declined}
 use Rattle.outcomes.specs.declared.Refusal.{Refusal}
 use Rattle.outcomes.specs.declared.Refusal.the-variants.{OutOfRange, NotStore, UsedUp}
 use Rattle.store.specs.declared.filter_calls.FilterCall.{FilterCall}
 use Rattle.store.specs.declared.image_calls.ImageCall.{ImageCall}
-use Rattle.store.specs.declared.path_reads.PathRead.{PathRead}
 use Rattle.store.specs.declared.relation_calls.RelationCall.{RelationCall}
-use Rattle.store.specs.declared.relation_reads.RelationRead.{RelationRead}
 use Rattle.store.specs.declared.set_calls.SetCall.{SetCall}
-use Rattle.store.specs.declared.set_reads.SetRead.{SetRead}
 use Rattle.outcomes.proofs.Encoding.{Space}
-use Rattle.store.proofs.Going.{program-in, provided-went}
+use Rattle.outcomes.proofs.Going.{level-in, provided-went, going-runs, going-gives}
 use Rattle.outcomes.proofs.Handles.{provided-yes}
-use Rattle.meanings.proofs.ImageMeans.{path-tells}
 use Rattle.store.proofs.ImageMeant.{image-does, filter-does}
 use Rattle.meanings.proofs.Matching.{matches-written, matches-formed, matches-few, matches-headed, matches-over}
 use Rattle.outcomes.proofs.Outcomes.{judged}
-use Rattle.meanings.proofs.ReadMeans.{Tells, set-read-tells, relation-read-tells}
 use Rattle.store.proofs.RelationMeant.{relation-does}
 use Rattle.store.proofs.SetMeant.{set-does}
 
 -- SOUND VERDICTS: what they run leaves a well-formed store
-pub record Sound (v : ℕ → Store → Verdict) : Type 0 where
-  pub formed : (k : ℕ) (S : Store) (p : Prog) → WellFormed k S → v k S ≡ runs p → WellFormed k (run p S .store)
+pub record Sound {A : Type 0} (v : ℕ → Store → Verdict A) : Type 0 where
+  pub formed : (k : ℕ) (S : Store) (p : Prog) (f : Ran → A) → WellFormed k S → v k S ≡ runs p f → WellFormed k (run p S .store)
+
+-- a call that goes on by running a program, or by an answer
+module _ {A : Type 0} (refuse : Refusal → A) (judge : ℕ → Store → Check) where
+  pub runs-sound : (program : ℕ → ℕ → Prog) (answer : Store → Ran → A)
+      → ((k : ℕ) (S : Store) (l : ℕ) → WellFormed k S → judge k S ≡ Level l → WellFormed k (run (program k l) S .store))
+      → Sound (λ k S. going refuse (judge k S) (λ l. runs (program k l) (answer S)))
+  runs-sound program answer h = record {
+    formed = λ k S p f F e. let w = going-runs refuse (judge k S) (program k) (answer S) p f e in
+        subst (λ p. WellFormed k (run p S .store)) (w .program) (h k S (w .level) F (w .goes));
+  }
+
+  pub gives-sound : (answer : Store → ℕ → A) → Sound (λ k S. going refuse (judge k S) (λ l. gives (answer S l)))
+  gives-sound answer = record { formed = λ k S p f F e. absurd (going-gives refuse (judge k S) (answer S) p f e) }
 
 set-sound : (c : SetCall) → Sound (set-verdict c)
-set-sound c = record { formed = λ k S p F e. set-does F c e .after .formed }
-
-set-read-sound : (c : SetRead) → Sound (set-read-verdict c)
-set-read-sound c = record { formed = λ k S p F e. absurd (subst (Tells _) e (set-read-tells F c)) }
+set-sound c = runs-sound Declined (λ k S. set-declines k c S) (λ k l. set-program k l c) (λ S. handle-of) (λ k S l F e. set-does F c e .after .formed)
 
 relation-sound : (c : RelationCall) → Sound (relation-verdict c)
-relation-sound c = record { formed = λ k S p F e. relation-does F c e .after .formed }
-
-relation-read-sound : (c : RelationRead) → Sound (relation-read-verdict c)
-relation-read-sound c = record { formed = λ k S p F e. absurd (subst (Tells _) e (relation-read-tells F c)) }
+relation-sound c = runs-sound Declined (λ k S. relation-declines k c S) (λ k l. relation-program k l c) (λ S. handle-of)
+    (λ k S l F e. relation-does F c e .after .formed)
 
 image-sound : (c : ImageCall) → Sound (image-verdict c)
-image-sound c = record { formed = λ k S p F e. image-does F c e .after .formed }
+image-sound c = runs-sound Declined (λ k S. image-declines k c S) (λ k l. image-program l c) (λ S. handle-of) (λ k S l F e. image-does F c e .after .formed)
 
 filter-sound : (c : FilterCall) → Sound (filter-verdict c)
-filter-sound c = record { formed = λ k S p F e. filter-does F c e .after .formed }
-
-path-sound : (c : PathRead) → Sound (path-verdict c)
-path-sound c = record { formed = λ k S p F e. absurd (subst (Tells _) e (path-tells F c)) }
+filter-sound c = runs-sound Declined (λ k S. filter-declines k c S) (λ k l. filter-program l c) (λ S. handle-of) (λ k S l F e. filter-does F c e .after .formed)
 
 -- THE LISTS ONLY GROW
 pub grown-none : (P : Plain) → Grown P P
 grown-none P = record { width = refl; lists = ext-refl }
 
-pub verdict-grown : (m n : ℕ) (v : ℕ → Store → Verdict) (P : Plain) → Grown P (on-lists m n v P .state)
+pub verdict-grown : {A : Type 0} (refuse : Refusal → A) (m n : ℕ) (v : ℕ → Store → Verdict A) (P : Plain) → Grown P (on-lists refuse m n v P .state)
 unfolding on-lists concludes
-verdict-grown m n v P = by-verdict (v (P .width) (P .lists))
+verdict-grown {A} refuse m n v P = by-verdict (v (P .width) (P .lists))
   where
-    by-verdict : (u : Verdict) → Grown P (concludes m n u (P .lists) P (plain-store (P .width)) .state)
-    by-verdict (declines r) = grown-none P
+    by-verdict : (u : Verdict A) → Grown P (concludes (refuse UsedUp) m n u (P .lists) P (plain-store (P .width)) .state)
     by-verdict (gives a) = grown-none P
-    by-verdict (runs p) = let S = run p (P .lists) .store in
-        by-test (λ b. Grown P (pick b (told (Handle (run p (P .lists) .value)) (plain-store (P .width) S)) (told (Declined UsedUp) P) .state))
+    by-verdict (runs p f) = let S = run p (P .lists) .store in
+        by-test (λ b. Grown P (pick b (told (f (run p (P .lists))) (plain-store (P .width) S)) (told (refuse UsedUp) P) .state))
         (fits-places m n S) (λ t. record { width = refl; lists = run-ext p (P .lists) }) (λ t. grown-none P)
 
 -- a refusal is no handle
@@ -93,16 +96,19 @@ pub not-handle : {r : Refusal} {h : ℕ} → Declined r ≡ Handle h → ⊥
 not-handle e = let z : _≡_ {A = ℕ} 0 1 = cc e in omega arith
 
 -- a refusal leaves what was there
-pub refused-stays : {X : Type 0} (m n : ℕ) (v : Verdict) (S : Store) (x : X) (put : Store → X) → Refused (concludes m n v S x put .answer)
-    → concludes m n v S x put .state ≡ x
+pub refused-stays : {X : Type 0} (m n : ℕ) (c : Check) (p : ℕ → Prog) (S : Store) (x : X) (put : Store → X)
+    → (let t = concludes (Declined UsedUp) m n (going Declined c (λ l. runs (p l) handle-of)) S x put in Refused (t .answer) → t .state ≡ x)
 unfolding concludes
-refused-stays m n (declines r) S x put R = refl
-refused-stays m n (gives a) S x put R = refl
-refused-stays m n (runs p) S x put R = let T = run p S in
+refused-stays m n (No r) p S x put R = refl
+refused-stays m n (Level l) p S x put R = let T = run (p l) S in
     by-test (λ b. (let t = pick b (told (Handle (T .value)) (put (T .store))) (told (Declined UsedUp) x) in Refused (t .answer) → t .state ≡ x))
     (fits-places m n (T .store)) (λ t R. absurd (not-handle (sym (R .is)))) (λ t R. refl) R
 
 -- THE SAME ANSWER, AND THEY MATCH AGAIN
+-- also as an answer of another type
+pub retold-alike : {A B : Type 0} {M₀ : Memories} {t : Told A Memories} {u : Told A Plain} (f : A → B) → Alike M₀ t u → Alike M₀ (retold f t) (retold f u)
+retold-alike f a = record { answer = ap f (a .answer); matches = a .matches }
+
 -- a store that fits the places of M₀
 pub fits-space : {S : Store} {M₀ : Memories} → ((K : Kind) → head K ≤ length (memory K M₀))
     → fits-places (set-places M₀) (rel-places M₀) S ≡ true → Space S M₀
@@ -117,28 +123,28 @@ module _ {M₀ M : Memories} {P : Plain} (A : Matches M₀ M P) where
   n = rel-places M₀
 
   -- whatever the verdict: a program runs on the lists B, for k fields
-  pub concludes-alike : (k : ℕ) (B : Store) (v : Verdict) → ((p : Prog) → v ≡ runs p → (k ≤ 32) × WellFormed k (run p B .store))
-      → Alike M₀ (concludes m n v B M (λ S. encode k S M)) (concludes m n v B P (plain-store k))
+  pub concludes-alike : {A : Type 0} (six : A) (k : ℕ) (B : Store) (v : Verdict A)
+      → ((p : Prog) (f : Ran → A) → v ≡ runs p f → (k ≤ 32) × WellFormed k (run p B .store))
+      → Alike M₀ (concludes six m n v B M (λ S. encode k S M)) (concludes six m n v B P (plain-store k))
   unfolding concludes
-  concludes-alike k B (declines r) f = record { answer = refl; matches = A }
-  concludes-alike k B (gives a) f = record { answer = refl; matches = A }
-  concludes-alike k B (runs p) f = let S = run p B .store in let h = Handle (run p B .value) in
-      by-test (λ b. Alike M₀ (pick b (told h (encode k S M)) (told (Declined UsedUp) M)) (pick b (told h (plain-store k S)) (told (Declined UsedUp) P)))
+  concludes-alike six k B (gives a) h = record { answer = refl; matches = A }
+  concludes-alike six k B (runs p f) h = let S = run p B .store in let a = f (run p B) in
+      by-test (λ b. Alike M₀ (pick b (told a (encode k S M)) (told six M)) (pick b (told a (plain-store k S)) (told six P)))
       (fits-places m n S)
-      (λ t. let g = f p refl in record {
+      (λ t. let g = h p f refl in record {
         answer = refl;
         matches = subst (λ X. Matches M₀ X (plain-store k S)) (sym (matches-over A k S)) (matches-written (g .1) (fits-space (matches-headed A) t) (g .0));
       })
       (λ t. record { answer = refl; matches = A })
 
-  pub verdict-alike : (v : ℕ → Store → Verdict) → Sound v → Alike M₀ (on-store v M) (on-lists m n v P)
+  pub verdict-alike : {B : Type 0} (refuse : Refusal → B) (v : ℕ → Store → Verdict B) → Sound v → Alike M₀ (on-store refuse v M) (on-lists refuse m n v P)
   unfolding on-lists
-  verdict-alike v s =
-      let e : on-store v M ≡ concludes m n (v (P .width) (P .lists)) (P .lists) M (λ S. encode (P .width) S M)
-      = judged v M (A .store) (v (fields M) (decode M)) refl
-      ∙ (λ i. concludes (A .places set i) (A .places rel i) (v (A .width i) (A .lists i)) (A .lists i) M (λ S. encode (A .width i) S M)) in
-      subst (λ t. Alike M₀ t (on-lists m n v P)) (sym e)
-      (concludes-alike (P .width) (P .lists) (v (P .width) (P .lists)) (λ p q. (matches-few A, s .formed _ _ p (matches-formed A) q)))
+  verdict-alike refuse v s =
+      let e : on-store refuse v M ≡ concludes (refuse UsedUp) m n (v (P .width) (P .lists)) (P .lists) M (λ S. encode (P .width) S M)
+      = judged refuse v M (A .store) (v (fields M) (decode M)) refl
+      ∙ (λ i. concludes (refuse UsedUp) (A .places set i) (A .places rel i) (v (A .width i) (A .lists i)) (A .lists i) M (λ S. encode (A .width i) S M)) in
+      subst (λ t. Alike M₀ t (on-lists refuse m n v P)) (sym e)
+      (concludes-alike (refuse UsedUp) (P .width) (P .lists) (v (P .width) (P .lists)) (λ p f q. (matches-few A, s .formed _ _ p f (matches-formed A) q)))
 
   heads-yes : heads? M ≡ true
   heads-yes = rw (le-leb _ _ (A .store .room rel .headed), le-leb _ _ (A .store .room set .headed))
@@ -146,26 +152,34 @@ module _ {M₀ M : Memories} {P : Plain} (A : Matches M₀ M P) where
   new-alike : (k : ℕ) → Alike M₀ (step (new-store k) M) (plain-step m n (new-store k) P)
   unfolding step new-step plain-step
   new-alike k =
-      let v = provided OutOfRange (leb k 32) (runs (new k)) in
-      let e : step (new-store k) M ≡ concludes m n v blank M (λ S. encode k S M)
-      = λ i. concludes (A .places set i) (A .places rel i) (provided OutOfRange (leb k 32) (provided-yes NotStore (heads? M) (runs (new k)) heads-yes i))
+      let c = provided OutOfRange (leb k 32) (Level k) in
+      let v = going Declined c (λ k. runs (new k) handle-of) in
+      let e : step (new-store k) M ≡ concludes (Declined UsedUp) m n v blank M (λ S. encode k S M)
+      = λ i. concludes (Declined UsedUp) (A .places set i) (A .places rel i)
+      (going Declined (provided OutOfRange (leb k 32) (provided-yes NotStore (heads? M) (Level k) heads-yes i)) (λ k. runs (new k) handle-of))
       blank M (λ S. encode k S M) in
-      subst (λ t. Alike M₀ t (plain-step m n (new-store k) P)) (sym e) (concludes-alike k blank v (λ p q. let t = provided-went _ _ tt q in
-      (leb→le k 32 (subst T (sym (t .0)) tt), subst (λ p. WellFormed k (run p blank .store)) (ap program-in (t .1)) (new-does k .after .formed))))
+      subst (λ t. Alike M₀ t (plain-step m n (new-store k) P)) (sym e) (concludes-alike (Declined UsedUp) k blank v (λ p f q.
+      let w = going-runs Declined c new handle-of p f q in
+      let t = provided-went _ _ (w .goes) in (
+        leb→le k 32 (subst T (sym (t .0)) tt),
+        subst (λ p. WellFormed k (run p blank .store)) (ap new (ap level-in (t .1)) ∙ w .program)
+            (new-does k .after .formed),
+      )))
 
-  -- a call whose verdict on a store is v
-  pub verdict-right : (c : Call) (v : ℕ → Store → Verdict) → Sound v → step c M ≡ on-store v M → plain-step m n c P ≡ on-lists m n v P
-      → CallRight store-calls M₀ M P c
-  verdict-right c v s e f = record {
-    alike = subst (λ t. Alike M₀ t (plain-step m n c P)) (sym e) (subst (Alike M₀ (on-store v M)) (sym f) (verdict-alike v s));
-    grown = λ r. subst (λ u. Grown P (u .state)) (sym f) (verdict-grown m n v P);
+  -- a call whose verdict on a store is v, of calls of any type; g makes their answers of its own
+  pub verdict-right : {C B D : Type 0} (Z : Calling C D) (c : C) (g : B → D) (refuse : Refusal → B) (v : ℕ → Store → Verdict B) → Sound v
+      → Z .on-memories c M ≡ retold g (on-store refuse v M) → Z .on-plain m n c P ≡ retold g (on-lists refuse m n v P) → CallRight Z M₀ M P c
+  verdict-right Z c g refuse v s e f = record {
+    alike = subst (λ t. Alike M₀ t (Z .on-plain m n c P)) (sym e)
+        (subst (Alike M₀ (retold g (on-store refuse v M))) (sym f) (retold-alike g (verdict-alike refuse v s)));
+    grown = λ r. subst (λ u. Grown P (u .state)) (sym f) (verdict-grown refuse m n v P);
   }
 
   new-right : (k : ℕ) → CallRight store-calls M₀ M P (new-store k)
   unfolding plain-step
   new-right k = record {
     alike = new-alike k;
-    grown = λ r. subst (Grown P) (sym (refused-stays m n (provided OutOfRange (leb k 32) (runs (new k))) blank P (plain-store k)
+    grown = λ r. subst (Grown P) (sym (refused-stays m n (provided OutOfRange (leb k 32) (Level k)) new blank P (plain-store k)
         (subst Refused (new-alike k .answer) (r k refl)))) (grown-none P);
   }
 
@@ -173,10 +187,13 @@ module _ {M₀ M : Memories} {P : Plain} (A : Matches M₀ M P) where
   pub call-right : (c : Call) → CallRight store-calls M₀ M P c
   unfolding step plain-step
   call-right (new-store k) = new-right k
-  call-right (set-call c) = verdict-right (set-call c) (set-verdict c) (set-sound c) refl refl
-  call-right (set-read c) = verdict-right (set-read c) (set-read-verdict c) (set-read-sound c) refl refl
-  call-right (relation-call c) = verdict-right (relation-call c) (relation-verdict c) (relation-sound c) refl refl
-  call-right (relation-read c) = verdict-right (relation-read c) (relation-read-verdict c) (relation-read-sound c) refl refl
-  call-right (image-call c) = verdict-right (image-call c) (image-verdict c) (image-sound c) refl refl
-  call-right (filter-call c) = verdict-right (filter-call c) (filter-verdict c) (filter-sound c) refl refl
-  call-right (path-read c) = verdict-right (path-read c) (path-verdict c) (path-sound c) refl refl
+  call-right (set-call c) = verdict-right store-calls (set-call c) (λ a. a) Declined (set-verdict c) (set-sound c) refl refl
+  call-right (set-read c) = verdict-right store-calls (set-read c) (λ a. a) Declined (set-read-verdict c)
+      (gives-sound Declined (λ k S. set-read-declines k c S) (λ S l. set-read-answer S l c)) refl refl
+  call-right (relation-call c) = verdict-right store-calls (relation-call c) (λ a. a) Declined (relation-verdict c) (relation-sound c) refl refl
+  call-right (relation-read c) = verdict-right store-calls (relation-read c) (λ a. a) Declined (relation-read-verdict c)
+      (gives-sound Declined (λ k S. relation-read-declines k c S) (λ S l. relation-read-answer S l c)) refl refl
+  call-right (image-call c) = verdict-right store-calls (image-call c) (λ a. a) Declined (image-verdict c) (image-sound c) refl refl
+  call-right (filter-call c) = verdict-right store-calls (filter-call c) (λ a. a) Declined (filter-verdict c) (filter-sound c) refl refl
+  call-right (path-read c) = verdict-right store-calls (path-read c) (λ a. a) Declined (path-verdict c)
+      (gives-sound Declined (λ k S. path-declines k c S) (λ S l. path-answer S l c)) refl refl

@@ -6,7 +6,7 @@ use Prim.Native.Nat.{ℕ}
 use lib.Dec.{T}
 use Rattle.nodes.specs.Meaning.{Relates, Same}
 use Rattle.nodes.specs.Policies.{Policy, meaning}
-use Rattle.nodes.specs.Programs.{Prog, run}
+use Rattle.nodes.specs.Programs.{Prog, Ran, run}
 use Rattle.nodes.specs.Store.{Store as Nodes}
 use Rattle.nodes.specs.WellFormed.{WellFormed}
 use Rattle.nodes.proofs.Bools.{by-test}
@@ -19,19 +19,24 @@ use Rattle.judging.proofs.Decide.{store-says}
 use Rattle.outcomes.specs.OnMemories.{set-places, rel-places}
 use Rattle.outcomes.proofs.Encoding.{decode-encode}
 use Rattle.texts.specs.Grammar.{Sum}
+use Rattle.texts.specs.XForms.{x-forms}
+use Rattle.texts.proofs.XLaws.{x-lawful}
 use Rattle.texts.proofs.Says.{tree-is}
 use Rattle.meanings.specs.EveryList.{Keeps, policy-of, text-relates}
-use Rattle.policies.specs.Outcome.{text-verdict, builds, policy-step}
+use Rattle.policies.specs.Outcome.{refused, text-verdict, policy-step}
+use Rattle.policies.specs.declared.PolicyAnswer.{PolicyAnswer}
 use Rattle.policies.specs.declared.PolicyAnswer.the-variants.{Handle}
-use Rattle.policies.proofs.TextOutcomes.{policy-judged, policy-not-store}
-use Rattle.meanings.proofs.KeptTexts.{not-handle, accepted-ran, Kept, builds-kept}
+use Rattle.outcomes.proofs.Outcomes.{ended, judged}
+use Rattle.policies.proofs.BuiltTexts.{policy-not-store}
+use Rattle.meanings.proofs.KeptTexts.{not-handle, accepted-ran, text-none, Kept, builds-kept}
 
 -- a text has one policy, so what it relates is what that policy means
-pub tree-relates : (k : ℕ) (t : List ℕ) (x : Policy) → Sum 32 t x → Same k (meaning k x) (text-relates k t)
-tree-relates k t x s p q P Q = (λ r. (x, s, r), λ r. subst (λ y. meaning k y p q) (sym (tree-is t (r .0) (r .1)) ∙ tree-is t x s) (r .2))
+pub tree-relates : (k : ℕ) (t : List ℕ) (x : Policy) → Sum x-forms 32 t x → Same k (meaning k x) (text-relates k t)
+tree-relates k t x s p q P Q = (λ r. (x, s, r), λ r. subst (λ y. meaning k y p q) (sym (tree-is x-lawful t (r .0) (r .1)) ∙ tree-is x-lawful t x s) (r .2))
 
 -- what the program of a text that keeps the rules leaves
-pub kept-does : {k : ℕ} {t : List ℕ} {S : Nodes} {p : Prog} → WellFormed k S → (K : Kept k t p) → Does k S p (Relates k (meaning k (policy-of (K .keeps))))
+pub kept-does : {k : ℕ} {t : List ℕ} {S : Nodes} {p : Prog} {f : Ran → PolicyAnswer} → WellFormed k S → (K : Kept k t S p f)
+    → Does k S p (Relates k (meaning k (policy-of (K .keeps))))
 kept-does {k} {S = S} F K =
     subst (λ p. Does k S p (Relates k (meaning k (policy-of (K .keeps))))) (K .program) (policy-does (policy-of (K .keeps)) (K .keeps .rules .below) F)
 
@@ -47,18 +52,24 @@ pub record TextRight (t : List ℕ) (M : Memories) (h : ℕ) : Type 0 where
   pub keeps : Keeps (fields M) t
   pub relates : Relates (fields M) (text-relates (fields M) t) (decode (policy-step t M .state)) h
 
+handles : {g h : ℕ} → Handle g ≡ Handle h → g ≡ h
+handles e = cc e
+
 pub text-right : (t : List ℕ) (M : Memories) (h : ℕ) → policy-step t M .answer ≡ Handle h → TextRight t M h
+unfolding policy-step
 text-right t M h e =
     let k = fields M in
     let s = accepted-store t M h e in
-    let j = policy-judged t M s in
-    let R = accepted-ran (set-places M) (rel-places M) (decode M) M (λ S. encode k S M) h (text-verdict t k) (ap (λ u. u .answer) (sym j) ∙ e) in
-    let K = builds-kept k t (R .program) (R .verdict) in
+    let v = text-verdict t k (decode M) in
+    let j : policy-step t M ≡ ended refused M v = judged refused (text-verdict t) M s v refl in
+    let R = accepted-ran (set-places M) (rel-places M) (decode M) M (λ S. encode k S M) h v (text-none k t (decode M)) (ap (λ u. u .answer) (sym j) ∙ e) in
+    let K = builds-kept k t (decode M) (R .program) (R .made) (R .verdict) in
+    let g : run (R .program) (decode M) .value ≡ h = handles (sym (K .made (run (R .program) (decode M))) ∙ R .answer) in
     let A = kept-does (s .formed) K .after in
     let at : decode (policy-step t M .state) ≡ run (R .program) (decode M) .store
     = ap (λ u. decode (u .state)) j ∙ ap decode (R .state) ∙ decode-encode M k (A .formed) in record {
       store = s;
       keeps = K .keeps;
-      relates = subst (λ S. Relates k (text-relates k t) S h) (sym at) (subst (Relates k (text-relates k t) (run (R .program) (decode M) .store)) (R .value)
+      relates = subst (λ S. Relates k (text-relates k t) S h) (sym at) (subst (Relates k (text-relates k t) (run (R .program) (decode M) .store)) g
           (relates-iff (tree-relates k t (policy-of (K .keeps)) (K .keeps .rules .follows)) (A .post)));
     }

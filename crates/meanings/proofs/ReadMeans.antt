@@ -7,63 +7,63 @@ use Prim.Native.Nat.{ℕ, suc}
 use native.Mathlib.Omega.{arith}
 use lib.Dec.{ltb, eqb, T}
 use borrow.Author.Tests.{eq-eqb}
-use Rattle.nodes.specs.Operations.{complement}
-use Rattle.nodes.specs.Packets.{Digits, Packet, walk, relates}
+use Rattle.nodes.specs.Meaning.{Den, Some}
+use Rattle.nodes.specs.Operations.{complement, is-zero}
+use Rattle.nodes.specs.Sets.{intersects}
+use Rattle.nodes.specs.Packets.{Digits, Packet, packet, digits, walk, contains, relates}
 use Rattle.nodes.specs.Programs.{run}
 use Rattle.nodes.specs.Recursion.{x0, x1, x00, x01, x10, x11}
-use Rattle.nodes.specs.Store.{set, rel, Store, get}
-use Rattle.nodes.specs.WellFormed.{Held, WellFormed, level-of}
+use Rattle.nodes.specs.Store.{set, rel, Store, signed, get}
+use Rattle.nodes.specs.WellFormed.{Held, WellFormed}
 use Rattle.nodes.proofs.Bools.{eqb-iff}
 use Rattle.nodes.proofs.Pairs.{relates-den, relates-own, relates-iff, digits-of, relates-x00, relates-x01, relates-x10, relates-x11}
 use Rattle.nodes.proofs.Pointwise.{complement-does}
 use Rattle.nodes.proofs.Rules.{den-child}
 use Rattle.nodes.proofs.YesNo.{is-zero-does, intersects-does}
 use Rattle.store.specs.Calls.{set-read, relation-read, step}
-use Rattle.outcomes.specs.OnMemories.{set-places, rel-places, on-store}
-use Rattle.judging.specs.Memory.{Memories, fields, decode, encode}
-use Rattle.outcomes.specs.Outcome.{Verdict, declines, gives, runs, Told, concludes}
+use Rattle.outcomes.specs.OnMemories.{on-store}
+use Rattle.judging.specs.Memory.{Memories, fields, decode}
+use Rattle.outcomes.specs.Outcome.{Verdict, gives, runs, going, concludes}
 use Rattle.meanings.specs.ReadMeanings.{SetChildren, RelationChildren, set-read-meaning, relation-read-meaning}
-use Rattle.store.specs.RelationCalls.{relation-read-verdict}
-use Rattle.store.specs.SetCalls.{set-read-verdict}
+use Rattle.store.specs.RelationCalls.{relation-read-declines, relation-read-answer, relation-read-verdict}
+use Rattle.store.specs.SetCalls.{set-read-declines, set-read-answer, set-read-verdict}
 use Rattle.judging.specs.Valid.{IsStore}
 use Rattle.outcomes.specs.declared.Answer.{Answer}
 use Rattle.outcomes.specs.declared.Answer.the-variants.{Declined}
+use Rattle.outcomes.specs.declared.Check.{Check}
+use Rattle.outcomes.specs.declared.Check.the-variants.{Level, No}
 use Rattle.outcomes.specs.declared.Refusal.{Refusal}
 use Rattle.store.specs.declared.relation_reads.RelationRead.{RelationRead}
 use Rattle.store.specs.declared.relation_reads.RelationRead.the-variants as R
 use Rattle.store.specs.declared.set_reads.SetRead.{SetRead}
 use Rattle.store.specs.declared.set_reads.SetRead.the-variants as T
-use Rattle.store.proofs.Going.{Goes, own, provided-went, one-went, two-went, above}
-use Rattle.outcomes.proofs.Outcomes.{judged}
+use Rattle.outcomes.proofs.Going.{own, also-went, one-went, two-went, above}
+use Rattle.outcomes.proofs.Outcomes.{ended, judged}
 use Rattle.store.proofs.RelationSteps.{relation-read-steps}
 use Rattle.store.proofs.SetSteps.{set-read-steps}
 
 -- VERDICTS that run nothing: the answer, or the refusal, has P
-abbrev pub Tells : (Answer → Type 0) → Verdict → Type 0
-Tells P (declines r) = P (Declined r)
+abbrev pub Tells : {A : Type 0} → (A → Type 0) → Verdict A → Type 0
 Tells P (gives a) = P a
-Tells P (runs p) = ⊥
+Tells P (runs p f) = ⊥
 
--- where every refusal has P, it is enough to know the verdict that is none
-pub tells-by : (P : Answer → Type 0) (v : Verdict) → ((r : Refusal) → P (Declined r)) → ((u : Verdict) → Goes u → v ≡ u → Tells P u) → Tells P v
-tells-by P (declines r) refused goes = refused r
-tells-by P (gives a) refused goes = goes (gives a) tt refl
-tells-by P (runs p) refused goes = goes (runs p) tt refl
+-- where every refusal has P, and the answer of a call that goes on
+pub tells-by : (P : Answer → Type 0) (c : Check) (f : ℕ → Answer) → ((r : Refusal) → P (Declined r)) → ((l : ℕ) → c ≡ Level l → P (f l))
+    → Tells P (going Declined c (λ l. gives (f l)))
+tells-by P (Level l) f refused goes = goes l refl
+tells-by P (No r) f refused goes = refused r
 
 -- so a call on a store answers with P, and leaves the memories
-module _ (v : ℕ → Store → Verdict) (M : Memories) (s : IsStore M) (P : Answer → Type 0) (t : Tells P (v (fields M) (decode M))) where
-  outcome : Verdict → Told Answer Memories
-  outcome u = concludes (set-places M) (rel-places M) u (decode M) M (λ S. encode (fields M) S M)
-
-  by-verdict : (u : Verdict) → Tells P u → P (outcome u .answer) × (outcome u .state ≡ M)
-  unfolding outcome concludes
-  by-verdict (declines r) t = (t, refl)
+module _ {A : Type 0} (refuse : Refusal → A) (v : ℕ → Store → Verdict A) (M : Memories) (s : IsStore M) (P : A → Type 0)
+    (t : Tells P (v (fields M) (decode M))) where
+  by-verdict : (u : Verdict A) → Tells P u → P (ended refuse M u .answer) × (ended refuse M u .state ≡ M)
+  unfolding concludes
   by-verdict (gives a) t = (t, refl)
-  by-verdict (runs p) t = absurd t
+  by-verdict (runs p f) t = absurd t
 
-  pub told-so : P (on-store v M .answer) × (on-store v M .state ≡ M)
-  unfolding outcome
-  told-so = subst (λ t. P (t .answer) × (t .state ≡ M)) (sym (judged v M s (v (fields M) (decode M)) refl)) (by-verdict (v (fields M) (decode M)) t)
+  pub told-so : P (on-store refuse v M .answer) × (on-store refuse v M .state ≡ M)
+  told-so =
+      subst (λ t. P (t .answer) × (t .state ≡ M)) (sym (judged refuse v M s (v (fields M) (decode M)) refl)) (by-verdict (v (fields M) (decode M)) t)
 
 -- a yes is 1
 pub yes : (n : ℕ) → (eqb n 1 ≡ true) ↔ (n ≡ 1)
@@ -111,55 +111,53 @@ module _ {k : ℕ} {S : Store} (F : WellFormed k S) where
   relation-read-refused (R.IsZero a) r = tt
   relation-read-refused (R.Relates a p q) r = tt
 
-  set-read-goes : (c : SetRead) (u : Verdict) → Goes u → set-read-verdict c k S ≡ u → Tells (set-read-meaning k c S) u
+  set-read-goes : (c : SetRead) (l : ℕ) → set-read-declines k c S ≡ Level l → set-read-meaning k c S (set-read-answer S l c)
   unfolding set-read-meaning complement run
-  set-read-goes (T.Get a) u g e =
-      let t = one-went set F g a _ e in
-      let q = provided-went _ _ g (t .1) in
-      subst (Tells (set-read-meaning k (T.Get a) S)) (q .1) (set-children S (level-of k set S a) a (q .0) (t .0 .held))
-  set-read-goes (T.Complement a) u g e =
-      let t = one-went set F g a _ e in
-      subst (Tells (set-read-meaning k (T.Complement a) S)) (t .1)
-      (complement-does set (level-of k set S a) a F (t .0 .low) (own set S _ a (t .0 .held)) .after .post)
-  set-read-goes (T.IsZero a) u g e =
-      let t = one-went set F g a _ e in
-      subst (Tells (set-read-meaning k (T.IsZero a) S)) (t .1)
-      (Iff·trans (yes _) (is-zero-does set (level-of k set S a) a F (own set S _ a (t .0 .held)) .after .post .means))
-  set-read-goes (T.Intersects a b) u g e =
-      let l = level-of k set S a in
-      let t = two-went set F g a b _ e in
-      subst (Tells (set-read-meaning k (T.Intersects a b) S)) (t .2)
+  set-read-goes (T.Get a) l e =
+      let q = also-went _ _ _ e in
+      let t = one-went F set a (q .0) in
+      subst (λ l. SetChildren S l a (x0 (get set S a)) (x1 (get set S a))) (sym (t .level)) (set-children S l a (q .1) (t .held))
+  set-read-goes (T.Complement a) l e =
+      let t = one-went F set a e in
+      subst (λ l. Den set l (λ p. ¬ contains S a p) S (signed 1 a)) (sym (t .level)) (complement-does set l a F (t .low) (own set S l a (t .held)) .after .post)
+  set-read-goes (T.IsZero a) l e =
+      let t = one-went F set a e in
+      subst (λ j. (eqb (run (is-zero set l a) S .value) 1 ≡ true) ↔ ((p : List ℕ) → Packet j p → ¬ contains S a p)) (sym (t .level))
+      (Iff·trans (yes _) (is-zero-does set l a F (own set S l a (t .held)) .after .post .means))
+  set-read-goes (T.Intersects a b) l e =
+      let t = two-went F set a b e in
+      subst (λ j. (eqb (run (intersects l a b) S .value) 1 ≡ true) ↔ Some j (λ p. contains S a p × contains S b p)) (sym (t .0 .level))
       (Iff·trans (yes _) (intersects-does l a b F (t .0 .low) (own set S l a (t .0 .held)) (own set S l b (t .1 .held)) .after .post .means))
 
-  relation-read-goes : (c : RelationRead) (u : Verdict) → Goes u → relation-read-verdict c k S ≡ u → Tells (relation-read-meaning k c S) u
+  relation-read-goes : (c : RelationRead) (l : ℕ) → relation-read-declines k c S ≡ Level l → relation-read-meaning k c S (relation-read-answer S l c)
   unfolding relation-read-meaning
-  relation-read-goes (R.Get a) u g e =
-      let t = one-went rel F g a _ e in
-      let q = provided-went _ _ g (t .1) in
-      subst (Tells (relation-read-meaning k (R.Get a) S)) (q .1) (relation-children S (level-of k rel S a) a (q .0) (t .0 .held))
-  relation-read-goes (R.IsZero a) u g e =
-      let l = level-of k rel S a in
-      let t = one-went rel F g a _ e in
-      subst (Tells (relation-read-meaning k (R.IsZero a) S)) (t .1) (Iff·trans (yes _)
-      (Iff·trans (is-zero-does rel l a F (own rel S l a (t .0 .held)) .after .post .means) (no-pair S l a (t .0 .held))))
-  relation-read-goes (R.Relates a p q) u g e =
-      let t = one-went rel F g a _ e in
-      let x = provided-went _ _ g (t .1) in
-      subst (Tells (relation-read-meaning k (R.Relates a p q) S)) (provided-went _ _ g (x .1) .1) (yes _)
+  relation-read-goes (R.Get a) l e =
+      let q = also-went _ _ _ e in
+      let t = one-went F rel a (q .0) in
+      let x = get rel S a in
+      subst (λ l. RelationChildren S l a (x00 x) (x01 x) (x10 x) (x11 x)) (sym (t .level)) (relation-children S l a (q .1) (t .held))
+  relation-read-goes (R.IsZero a) l e =
+      let t = one-went F rel a e in
+      subst (λ j. (eqb (run (is-zero rel l a) S .value) 1 ≡ true) ↔ ((p q : List ℕ) → Packet j p → Packet j q → ¬ relates S a p q)) (sym (t .level))
+      (Iff·trans (yes _) (Iff·trans (is-zero-does rel l a F (own rel S l a (t .held)) .after .post .means) (no-pair S l a (t .held))))
+  relation-read-goes (R.Relates a p q) l e =
+      let t = one-went F rel a (also-went _ _ _ (also-went _ _ _ e .0) .0) in
+      subst (λ j. (eqb (walk rel S a (digits (packet l p) (packet l q))) 1 ≡ true) ↔ relates S a (packet j p) (packet j q)) (sym (t .level)) (yes _)
 
   pub set-read-tells : (c : SetRead) → Tells (set-read-meaning k c S) (set-read-verdict c k S)
-  set-read-tells c = tells-by (set-read-meaning k c S) (set-read-verdict c k S) (set-read-refused c) (set-read-goes c)
+  set-read-tells c = tells-by (set-read-meaning k c S) (set-read-declines k c S) (λ l. set-read-answer S l c) (set-read-refused c) (set-read-goes c)
 
   pub relation-read-tells : (c : RelationRead) → Tells (relation-read-meaning k c S) (relation-read-verdict c k S)
-  relation-read-tells c = tells-by (relation-read-meaning k c S) (relation-read-verdict c k S) (relation-read-refused c) (relation-read-goes c)
+  relation-read-tells c =
+      tells-by (relation-read-meaning k c S) (relation-read-declines k c S) (λ l. relation-read-answer S l c) (relation-read-refused c) (relation-read-goes c)
 
 -- THE FACTS: of a call on a store, what its answer says where it is no refusal; it leaves both memories
 pub set-read-means : (c : SetRead) (M : Memories) → IsStore M
     → set-read-meaning (fields M) c (decode M) (step (set-read c) M .answer) × (step (set-read c) M .state ≡ M)
 set-read-means c M s = subst (λ t. set-read-meaning (fields M) c (decode M) (t .answer) × (t .state ≡ M)) (sym (set-read-steps c M))
-    (told-so (set-read-verdict c) M s (set-read-meaning (fields M) c (decode M)) (set-read-tells (s .formed) c))
+    (told-so Declined (set-read-verdict c) M s (set-read-meaning (fields M) c (decode M)) (set-read-tells (s .formed) c))
 
 pub relation-read-means : (c : RelationRead) (M : Memories) → IsStore M
     → relation-read-meaning (fields M) c (decode M) (step (relation-read c) M .answer) × (step (relation-read c) M .state ≡ M)
 relation-read-means c M s = subst (λ t. relation-read-meaning (fields M) c (decode M) (t .answer) × (t .state ≡ M)) (sym (relation-read-steps c M))
-    (told-so (relation-read-verdict c) M s (relation-read-meaning (fields M) c (decode M)) (relation-read-tells (s .formed) c))
+    (told-so Declined (relation-read-verdict c) M s (relation-read-meaning (fields M) c (decode M)) (relation-read-tells (s .formed) c))

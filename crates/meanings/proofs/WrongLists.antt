@@ -19,7 +19,8 @@ use Rattle.outcomes.specs.OnMemories.{set-places, rel-places, new-step}
 use Rattle.meanings.specs.Lists.{in-turn, plain-steps, Matches, Lasts, store-calls, after-new}
 use Rattle.meanings.specs.PlainStore.{Plain, plain-store, on-lists, plain-step, begun}
 use Rattle.judging.specs.Memory.{Memories, memories, decode}
-use Rattle.outcomes.specs.Outcome.{Verdict, runs, provided, told, concludes}
+use Rattle.outcomes.specs.Outcome.{Verdict, runs, handle-of, provided, told, concludes}
+use Rattle.outcomes.specs.declared.Answer.{Answer}
 use Rattle.outcomes.specs.declared.Answer.the-variants.{Handle, Declined}
 use Rattle.outcomes.specs.declared.Refusal.the-variants.{UsedUp}
 use Rattle.store.specs.declared.set_calls.SetCall.the-variants.{Test}
@@ -28,8 +29,8 @@ use Rattle.meanings.proofs.Matching.{matches-space}
 use Rattle.meanings.proofs.OneCall.{not-handle}
 
 -- 01, "Plausible and wrong": "Keeping nodes of a call that ended in 6". The lists with that call's nodes match no memories
-pub kept-nodes : {M₀ M : Memories} (P : Plain) (v : ℕ → Store → Verdict) (p : Prog) → v (P .width) (P .lists) ≡ runs p
-    → on-lists (set-places M₀) (rel-places M₀) v P .answer ≡ Declined UsedUp → ¬ Matches M₀ M (plain-store (P .width) (run p (P .lists) .store))
+pub kept-nodes : {M₀ M : Memories} (P : Plain) (v : ℕ → Store → Verdict Answer) (p : Prog) → v (P .width) (P .lists) ≡ runs p handle-of
+    → on-lists Declined (set-places M₀) (rel-places M₀) v P .answer ≡ Declined UsedUp → ¬ Matches M₀ M (plain-store (P .width) (run p (P .lists) .store))
 unfolding on-lists concludes
 kept-nodes {M₀} {M} P v p e q A =
     let m = set-places M₀ in
@@ -37,7 +38,8 @@ kept-nodes {M₀} {M} P v p e q A =
     let S = run p (P .lists) .store in
     let t : T (fits-places m n S) = fits-places-iff m n S .1 (matches-space A .within set, matches-space A .within rel) in
     by-test (λ b. T b → pick b (told (Handle (run p (P .lists) .value)) (plain-store (P .width) S)) (told (Declined UsedUp) P) .answer ≡ Declined UsedUp → ⊥)
-    (fits-places m n S) (λ _ _ q. not-handle (sym q)) (λ _ t q. t) t (ap (λ u. concludes m n u (P .lists) P (plain-store (P .width)) .answer) (sym e) ∙ q)
+    (fits-places m n S) (λ _ _ q. not-handle (sym q)) (λ _ t q. t) t
+    (ap (λ u. concludes (Declined UsedUp) m n u (P .lists) P (plain-store (P .width)) .answer) (sym e) ∙ q)
 
 -- LASTING HANDLES. In a store of one field, a test of it and then another `new`: the test's handle 4 is held, and then not
 abbrev lent : Memories

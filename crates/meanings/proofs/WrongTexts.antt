@@ -18,6 +18,7 @@ use Rattle.meanings.specs.Lists.{in-turn, each-call}
 use Rattle.outcomes.specs.OnMemories.{new-step}
 use Rattle.outcomes.specs.Outcome.{provided, concludes}
 use Rattle.outcomes.specs.declared.Answer.the-variants as store
+use Rattle.texts.specs.XForms.{x-forms}
 use Rattle.texts.specs.Grammar.{Sum, a-zero, a-one, s-atom, p-one, u-one, u-plus}
 use Rattle.meanings.specs.EveryList.{AnyCall, policy, Keeps, answer-after, AcceptedIn, TextsRight}
 use Rattle.policies.specs.declared.PolicyAnswer.the-variants.{Handle, Declined}
@@ -98,7 +99,7 @@ not-first-product f = f (plus fail skip) (0 ∷ []) (0 ∷ []) (more 0 (omega ar
 abbrev sum-text : List ℕ
 sum-text = zero-text ++ (43 ∷ one-text)
 
-sum-follows : Sum 32 sum-text (plus fail skip)
+sum-follows : Sum x-forms 32 sum-text (plus fail skip)
 sum-follows = u-plus (u-one (p-one (s-atom a-zero))) (p-one (s-atom a-one))
 
 pub sum-is-another : (cs : List AnyCall) (D : TextsRight 1 lent cs) (g h : ℕ) → AcceptedIn 1 lent cs sum-text g → AcceptedIn 1 lent cs zero-text h

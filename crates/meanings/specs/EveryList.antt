@@ -18,6 +18,7 @@ use Rattle.outcomes.specs.Outcome.{Told, retold}
 use Rattle.meanings.specs.PlainStore.{Plain, plain-step, plain-policy-step}
 use Rattle.outcomes.specs.declared.Answer.{Answer}
 use Rattle.outcomes.specs.declared.Refusal.the-variants.{UsedUp}
+use Rattle.texts.specs.XForms.{x-forms}
 use Rattle.texts.specs.Answers.{KeepsRules}
 use Rattle.texts.specs.Grammar.{Sum}
 use Rattle.policies.specs.Outcome.{policy-step}
@@ -52,13 +53,13 @@ all-calls = record { on-memories = any-step; on-plain = plain-any-step; GoesOn =
 
 -- 01: "A text relates the pairs that its meaning above gives for packets of k fields."
 abbrev pub text-relates : ℕ → List ℕ → Rel
-text-relates k t p q = (x : Policy) × Sum 32 t x × meaning k x p q
+text-relates k t p q = (x : Policy) × Sum x-forms 32 t x × meaning k x p q
 
 -- 01: "A text keeps the rules when it has at most 4,096 bytes, follows the grammar, nests no atom deeper than 32, names only fields
 -- below k and has neither `:=` nor `*` in the operand of a `!`."
 pub record Keeps (k : ℕ) (t : List ℕ) : Type 0 where
   pub short : length t ≤ 4096
-  pub rules : KeepsRules k t
+  pub rules : KeepsRules x-forms k t
 
 -- the policy that such a text is of
 abbrev pub policy-of : {k : ℕ} {t : List ℕ} → Keeps k t → Policy

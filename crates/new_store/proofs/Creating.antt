@@ -13,12 +13,13 @@ use Rattle.nodes.specs.Programs.{run}
 use Rattle.nodes.specs.Places.{fits-places}
 use Rattle.nodes.specs.Images.{blank, new}
 use Rattle.nodes.proofs.New.{blank-formed, new-counts}
-use Rattle.outcomes.specs.OnMemories.{set-places, rel-places, heads?, new-step}
+use Rattle.outcomes.specs.OnMemories.{set-places, rel-places, heads?, new-declines, new-step}
 use Rattle.new_store.specs.Creating.{NewChecked, Begun, Created}
 use Rattle.judging.specs.Commit.{cleared}
 use Rattle.judging.specs.Memory.{Memories, memories, memory, head, fields, places-in, flat, write, encode}
-use Rattle.outcomes.specs.Outcome.{Verdict, declines, runs, provided, told, concludes}
+use Rattle.outcomes.specs.Outcome.{runs, going, handle-of, provided, told, concludes}
 use Rattle.outcomes.specs.declared.Answer.{Answer}
+use Rattle.outcomes.specs.declared.Check.{Check}
 use Rattle.outcomes.specs.declared.Check.the-variants.{Level}
 use Rattle.outcomes.specs.declared.Answer.the-variants.{Handle, Declined}
 use Rattle.outcomes.specs.declared.Refusal.the-variants.{NotStore, OutOfRange, UsedUp}
@@ -35,28 +36,29 @@ module _ (k : ℕ) (M : Memories) where
   abbrev made : Store
   made = run (new k) blank .store
 
-  by-verdict : (u : Verdict) → provided OutOfRange (leb k 32) (provided NotStore (heads? M) (runs (new k))) ≡ u
-      → new-step k M ≡ concludes (set-places M) (rel-places M) u blank M (λ S. encode k S M)
+  by-check : (c : Check) → new-declines k M ≡ c
+      → new-step k M ≡ concludes (Declined UsedUp) (set-places M) (rel-places M) (going Declined c (λ k. runs (new k) handle-of)) blank M (λ S. encode k S M)
   unfolding new-step
-  by-verdict u e = ap (λ u. concludes (set-places M) (rel-places M) u blank M (λ S. encode k S M)) e
+  by-check c e = ap (λ c. concludes (Declined UsedUp) (set-places M) (rel-places M) (going Declined c (λ k. runs (new k) handle-of)) blank M
+      (λ S. encode k S M)) e
 
   pub new-range : 32 < k → told (Declined OutOfRange) M ≡ new-step k M
   unfolding concludes
-  new-range h = sym (by-verdict _ (provided-no _ _ _ (lt-leb k 32 h)))
+  new-range h = sym (by-check _ (provided-no _ _ _ (lt-leb k 32 h)))
 
   module _ (few : k ≤ 32) where
-    enough : provided OutOfRange (leb k 32) (provided NotStore (heads? M) (runs (new k))) ≡ provided NotStore (heads? M) (runs (new k))
+    enough : new-declines k M ≡ provided NotStore (heads? M) (Level k)
     enough = provided-yes _ _ _ (le-leb k 32 few)
 
     pub new-short : heads? M ≡ false → told (Declined NotStore) M ≡ new-step k M
     unfolding concludes
-    new-short h = sym (by-verdict _ (enough ∙ provided-no _ _ _ h))
+    new-short h = sym (by-check _ (enough ∙ provided-no _ _ _ h))
 
     module _ (h : heads? M ≡ true) where
       runs-new : new-step k M
           ≡ pick (fits-places (set-places M) (rel-places M) made) (told (Handle (run (new k) blank .value)) (encode k made M)) (told (Declined UsedUp) M)
       unfolding concludes
-      runs-new = by-verdict _ (enough ∙ provided-yes _ _ _ h)
+      runs-new = by-check _ (enough ∙ provided-yes _ _ _ h)
 
       fits-is : fits-places (set-places M) (rel-places M) made ≡ (leb k (set-places M) && leb (3 * k) (rel-places M))
       fits-is = let c = new-counts k in (λ i. leb (c .1 i) (set-places M) && leb (c .0 i) (rel-places M))

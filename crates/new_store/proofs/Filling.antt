@@ -8,8 +8,8 @@ use lib.ListN.{length}
 use lib.Dec.{T}
 use borrow.Author.Tests.{le-leb}
 use borrow.Rule.Slice.PartMut.{putMid}
-use Rattle.nodes.specs.Store.{Kind, set, rel, Store, nodes}
-use Rattle.nodes.specs.Programs.{run}
+use Rattle.nodes.specs.Store.{Kind, set, rel, Store, nodes, pick}
+use Rattle.nodes.specs.Programs.{Prog, run}
 use Rattle.nodes.specs.Places.{fits-places}
 use Rattle.nodes.specs.Meaning.{Den, Relates}
 use Rattle.nodes.specs.Images.{blank, new}
@@ -30,18 +30,26 @@ use Rattle.memory.specs.declared.Arena.{Arena}
 use Rattle.memory.proofs.Rows.{rows-length}
 use Rattle.memory.proofs.Starting.{right-turned, right-cleared}
 use Rattle.memory.proofs.Walks.{T-true}
-use Rattle.outcomes.specs.OnMemories.{set-places, rel-places}
+use Rattle.outcomes.specs.OnMemories.{set-places, rel-places, on-store}
 use Rattle.outcomes.specs.Checking.{Accepted}
 use Rattle.new_store.specs.Creating.{set-constants, relation-constants, Begun, Created}
 use Rattle.outcomes.specs.Finishing.{Finished}
 use Rattle.judging.specs.Memory.{Memories, memories, memory, count, fields, body, decode, encode}
-use Rattle.outcomes.specs.Outcome.{runs}
+use Rattle.outcomes.specs.Outcome.{runs, handle-of, told, concludes}
 use Rattle.judging.specs.Valid.{IsStore}
 use Rattle.outcomes.specs.declared.Answer.{Answer}
-use Rattle.outcomes.specs.declared.Answer.the-variants.{Handle}
+use Rattle.outcomes.specs.declared.Answer.the-variants.{Handle, Declined}
+use Rattle.outcomes.specs.declared.Refusal.the-variants.{UsedUp}
 use Rattle.outcomes.proofs.Encoding.{Space, encode-fields, decode-encode, encode-places, encode-store, encode-encode}
-use Rattle.outcomes.proofs.Outcomes.{decoded, run-fits}
+use Rattle.outcomes.proofs.Outcomes.{decoded, judged, finished-commits, finished-ends}
 use Rattle.outcomes.proofs.Running.{part-of, runs-here, within-memory, ran-here}
+
+-- a program that fits
+run-fits : (p : Prog) (M : Memories) → IsStore M → fits-places (set-places M) (rel-places M) (run p (decode M) .store) ≡ true
+    → on-store Declined (λ k S. runs p handle-of) M ≡ told (Handle (run p (decode M) .value)) (encode (fields M) (run p (decode M) .store) M)
+unfolding concludes
+run-fits p M s f = judged Declined (λ k S. runs p handle-of) M s (runs p handle-of) refl
+    ∙ ap (λ b. pick b (told (Handle (run p (decode M) .value)) (encode (fields M) (run p (decode M) .store) M)) (told (Declined UsedUp) M)) f
 
 -- THE TWO PROGRAMS
 sets-do : (k : ℕ) → Does k blank (set-constants k) (Den set k (λ p. Unit {0}))
@@ -112,7 +120,7 @@ module _ (k : ℕ) (M : Memories) (w : List ℕ) (G : Begun k M w) where
       first : M₁ ≡ encode k S₁ M
       first =
           let t = ran-here set M w ready-sets 0 (none set) tt (set-constants k) (set-constants k) b w₁ s refl sets-safe P
-          (λ k S. runs _) s′ a refl F in
+          Declined (λ k S. runs _ handle-of) handle-of s′ a refl (finished-commits F) (finished-ends set _ _ F) in
           let f : fits-places (set-places M) (rel-places M) (run (set-constants k) (decode M) .store) ≡ true
           = ap (λ R. fits-places (set-places M) (rel-places M) (R .store)) same-first ∙ T-true _ first-fits in
           ap (λ u. u .state) (t ∙ run-fits (set-constants k) M (G .store) f) ∙ (λ i. encode (G .wide i) (same-first i .store) M)
@@ -181,7 +189,7 @@ module _ (k : ℕ) (M : Memories) (w : List ℕ) (G : Begun k M w) where
           filled r′ c H =
               let p = relation-constants k in
               let t = ran-here rel M₁ w₂ ready-relations 0 none-first tt p p d w₃ r refl relations-safe Q
-              (λ k S. runs _) r′ c refl H in
+              Declined (λ k S. runs _ handle-of) handle-of r′ c refl (finished-commits H) (finished-ends rel _ _ H) in
               let e : run (relation-constants k) (decode M₁) ≡ run (new k) blank = ap (run (relation-constants k)) read-first ∙ sym (in-two k) in
               let f : fits-places (set-places M₁) (rel-places M₁) (run (relation-constants k) (decode M₁) .store) ≡ true
               = (λ i. fits-places (same-places i) (rel-places M) (e i .store)) ∙ T-true _ all-fits in

@@ -12,20 +12,19 @@ use Rattle.nodes.proofs.Levels.{level-is, held-at}
 use Rattle.memory.specs.Noting.{LevelIs}
 use Rattle.memory.specs.Rows.{places, plain}
 use Rattle.memory.proofs.Steps.{false≢true}
-use Rattle.outcomes.specs.Outcome.{Verdict, declines, provided, of-one, of-pair, of-four}
-use Rattle.outcomes.specs.Checking.{checked}
+use Rattle.outcomes.specs.Outcome.{provided, also, of-one, of-pair, of-four}
 use Rattle.outcomes.specs.declared.Check.{Check}
 use Rattle.outcomes.specs.declared.Check.the-variants.{Level, No}
 use Rattle.outcomes.specs.declared.Refusal.{Refusal}
 use Rattle.outcomes.specs.declared.Refusal.the-variants.{NotHeld, LevelsDiffer}
 
-pub provided-yes : (r : Refusal) (b : Bool) (v : Verdict) → b ≡ true → provided r b v ≡ v
+pub provided-yes : (r : Refusal) (b : Bool) (c : Check) → b ≡ true → provided r b c ≡ c
 unfolding provided
-provided-yes r b v e = rw e
+provided-yes r b c e = rw e
 
-pub provided-no : (r : Refusal) (b : Bool) (v : Verdict) → b ≡ false → provided r b v ≡ declines r
+pub provided-no : (r : Refusal) (b : Bool) (c : Check) → b ≡ false → provided r b c ≡ No r
 unfolding provided
-provided-no r b v e = rw e
+provided-no r b c e = rw e
 
 pub held-low : (K : Kind) (S : Store) (h : ℕ) → h < 2 → is-held K S h ≡ true
 held-low K S h e = rw (lt-ltb h 2 e)
@@ -39,52 +38,52 @@ module _ {k : ℕ} {S : Store} (K : Kind) (F : WellFormed k S) where
       let t = held-at K h F (subst T (sym e) tt) in
       let q = level-is K S k (t .0) h (t .1) (t .2) in (subst (λ l. l ≤ k) (sym q) (t .1), subst (λ l. Held K S l h) (sym q) (t .2))
 
-  pub one-none : (a : ℕ) (v : ℕ → Verdict) → is-held K S a ≡ false → of-one k K S a v ≡ declines NotHeld
+  pub one-none : (a : ℕ) → is-held K S a ≡ false → of-one k K S a ≡ No NotHeld
   unfolding of-one
-  one-none a v e = provided-no _ _ _ e
+  one-none a e = provided-no _ _ _ e
 
-  pub one-is : (a l : ℕ) (v : ℕ → Verdict) → is-held K S a ≡ true → l ≡ level-of k K S a → of-one k K S a v ≡ v l
+  pub one-is : (a l : ℕ) → is-held K S a ≡ true → l ≡ level-of k K S a → of-one k K S a ≡ Level l
   unfolding of-one
-  one-is a l v e f = provided-yes _ _ _ e ∙ ap v (sym f)
+  one-is a l e f = provided-yes _ _ _ e ∙ ap Level (sym f)
 
   -- four operands: all held, all at one level
-  module _ (a b c d : ℕ) (v : ℕ → Verdict) where
-    pub four-none : (is-held K S a && (is-held K S b && (is-held K S c && is-held K S d))) ≡ false → of-four k K S a b c d v ≡ declines NotHeld
+  module _ (a b c d : ℕ) where
+    pub four-none : (is-held K S a && (is-held K S b && (is-held K S c && is-held K S d))) ≡ false → of-four k K S a b c d ≡ No NotHeld
     unfolding of-four
     four-none e = provided-no _ _ _ e
 
     module _ (e : (is-held K S a && (is-held K S b && (is-held K S c && is-held K S d))) ≡ true) (l : ℕ) (p : l ≡ level-of k K S a) where
       at-levels : (x : Bool) → (eqb (level-of k K S b) l && (eqb (level-of k K S c) l && eqb (level-of k K S d) l)) ≡ x
-          → of-four k K S a b c d v ≡ provided LevelsDiffer x (v l)
+          → of-four k K S a b c d ≡ provided LevelsDiffer x (Level l)
       unfolding of-four
       at-levels x q = provided-yes _ _ _ e ∙ rw (← p, q)
 
       pub four-apart : (eqb (level-of k K S b) l && (eqb (level-of k K S c) l && eqb (level-of k K S d) l)) ≡ false
-          → of-four k K S a b c d v ≡ declines LevelsDiffer
+          → of-four k K S a b c d ≡ No LevelsDiffer
       four-apart q = at-levels false q ∙ provided-no _ _ _ refl
 
-      pub four-are : (eqb (level-of k K S b) l && (eqb (level-of k K S c) l && eqb (level-of k K S d) l)) ≡ true → of-four k K S a b c d v ≡ v l
+      pub four-are : (eqb (level-of k K S b) l && (eqb (level-of k K S c) l && eqb (level-of k K S d) l)) ≡ true → of-four k K S a b c d ≡ Level l
       four-are q = at-levels true q ∙ provided-yes _ _ _ refl
 
 -- two operands of the kinds K and J
-module _ {k : ℕ} {S : Store} (K J : Kind) (F : WellFormed k S) (a b : ℕ) (v : ℕ → Verdict) where
-  pub pair-first : is-held K S a ≡ false → of-pair k S K a J b v ≡ declines NotHeld
+module _ {k : ℕ} {S : Store} (K J : Kind) (F : WellFormed k S) (a b : ℕ) where
+  pub pair-first : is-held K S a ≡ false → of-pair k S K a J b ≡ No NotHeld
   unfolding of-pair
-  pair-first e = one-none K F a _ e
+  pair-first e = provided-no _ _ _ e
 
-  pub pair-second : is-held K S a ≡ true → is-held J S b ≡ false → of-pair k S K a J b v ≡ declines NotHeld
+  pub pair-second : is-held K S a ≡ true → is-held J S b ≡ false → of-pair k S K a J b ≡ No NotHeld
   unfolding of-pair
-  pair-second e f = one-is K F a _ _ e refl ∙ one-none J F b _ f
+  pair-second e f = provided-yes _ _ _ e ∙ provided-no _ _ _ f
 
   module _ (l j : ℕ) (e : is-held K S a ≡ true) (f : is-held J S b ≡ true) (p : l ≡ level-of k K S a) (q : j ≡ level-of k J S b) where
-    levels : of-pair k S K a J b v ≡ provided LevelsDiffer (eqb j l) (v l)
+    levels : of-pair k S K a J b ≡ provided LevelsDiffer (eqb j l) (Level l)
     unfolding of-pair
-    levels = one-is K F a l _ e p ∙ one-is J F b j _ f q
+    levels = provided-yes _ _ _ e ∙ provided-yes _ _ _ f ∙ (λ i. provided LevelsDiffer (eqb (sym q i) (sym p i)) (Level (sym p i)))
 
-    pub pair-apart : (j ≡ l → ⊥) → of-pair k S K a J b v ≡ declines LevelsDiffer
+    pub pair-apart : (j ≡ l → ⊥) → of-pair k S K a J b ≡ No LevelsDiffer
     pair-apart n = levels ∙ provided-no _ _ _ (ne-eqb j l n)
 
-    pub pair-are : j ≡ l → of-pair k S K a J b v ≡ v l
+    pub pair-are : j ≡ l → of-pair k S K a J b ≡ Level l
     pair-are n = levels ∙ provided-yes _ _ _ (eq-eqb j l n)
 
 -- each of four tests
@@ -100,14 +99,17 @@ pub level-told : {c k h r : ℕ} (K : Kind) (B : Store) (m : List ℕ) (n : ℕ)
     → WellFormed k (plain K B m n) → is-held K (plain K B m n) h ≡ true → r ≡ level-of k K (plain K B m n) h
 level-told K B m n L e f F t = let u = held-here K F _ t in L K B n _ e (subst (λ c. n ≤ places c m) (sym e) f) (u .1) (u .0)
 
--- a check, and one more test t where it goes on
-module _ {X : Verdict} {r : Check} (q : Refusal) (t : ℕ → Bool) (v : ℕ → Verdict) (C : X ≡ checked r (λ l. provided q (t l) (v l))) where
-  pub then-no : (l : ℕ) → r ≡ Level l → t l ≡ false → X ≡ declines q
-  then-no l e f = C ∙ ap (λ r. checked r (λ l. provided q (t l) (v l))) e ∙ provided-no _ _ _ f
+-- a check X that comes to r, and one more test t where it goes on
+module _ {X r : Check} (q : Refusal) (t : ℕ → Bool) (C : X ≡ r) where
+  pub also-no : (l : ℕ) → r ≡ Level l → t l ≡ false → also X q t ≡ No q
+  unfolding also
+  also-no l e f = ap (λ c. also c q t) (C ∙ e) ∙ provided-no q (t l) (Level l) f
 
-  pub then-yes : (l : ℕ) → r ≡ Level l → t l ≡ true → X ≡ v l
-  then-yes l e f = C ∙ ap (λ r. checked r (λ l. provided q (t l) (v l))) e ∙ provided-yes _ _ _ f
+  pub also-yes : (l : ℕ) → r ≡ Level l → t l ≡ true → also X q t ≡ Level l
+  unfolding also
+  also-yes l e f = ap (λ c. also c q t) (C ∙ e) ∙ provided-yes q (t l) (Level l) f
 
--- a refusal stays, whatever was to follow
-pub still-no : {X : Verdict} {r : Check} (q : Refusal) (w w′ : ℕ → Verdict) → r ≡ No q → X ≡ checked r w → X ≡ checked r w′
-still-no q w w′ e C = C ∙ ap (λ r. checked r w) e ∙ sym (ap (λ r. checked r w′) e)
+  -- a refusal stays
+  pub still-no : (p : Refusal) → r ≡ No p → also X q t ≡ r
+  unfolding also
+  still-no p e = ap (λ c. also c q t) (C ∙ e) ∙ sym e

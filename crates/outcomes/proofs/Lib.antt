@@ -5,3 +5,6 @@ pub mod Writing
 pub mod Encoding
 pub mod Outcomes
 pub mod Running
+pub mod CallSteps
+pub mod Reading
+pub mod Going

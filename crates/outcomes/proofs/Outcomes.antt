@@ -11,20 +11,23 @@ use lib.Seq.{take-add, drop-drop, length-take-le, take-append-add, drop-append-a
 use lib.Dec.{leb}
 use borrow.Author.Tests.{le-leb}
 use Rattle.nodes.specs.Store.{Kind, set, rel, arity, Nodes, Store, nodes, with-nodes, pick}
-use Rattle.nodes.specs.Programs.{Prog, run}
+use Rattle.nodes.specs.Programs.{Prog, Ran, run}
 use Rattle.nodes.specs.Places.{fits-places}
 use Rattle.nodes.proofs.Bools.{by-test}
 use Rattle.memory.specs.Rows.{rows, plain}
-use Rattle.memory.specs.Arena.{arena, ends, Runs}
+use Rattle.memory.specs.Arena.{arena, other, ends, Runs}
 use Rattle.memory.specs.declared.Arena.{Arena}
 use Rattle.memory.proofs.Rows.{rows-length, places-fit, plain-nodes}
 use Rattle.outcomes.specs.OnMemories.{set-places, rel-places, on-store}
-use Rattle.outcomes.specs.Finishing.{Finished}
+use Rattle.outcomes.specs.Finishing.{Finished, Fitted, Ends}
+use Rattle.judging.specs.Commit.{Committed}
 use Rattle.judging.specs.Memory.{Memories, memories, memory, head, count, fields, body, places-in, nodes-in, decode, write, encode}
-use Rattle.outcomes.specs.Outcome.{Verdict, declines, gives, runs, told, concludes}
+use Rattle.outcomes.specs.Outcome.{Verdict, gives, runs, provided, going, handle-of, Told, told, concludes}
 use Rattle.judging.specs.Valid.{Room, IsStore, store?}
 use Rattle.outcomes.specs.declared.Answer.{Answer}
 use Rattle.outcomes.specs.declared.Answer.the-variants.{Handle, Declined}
+use Rattle.outcomes.specs.declared.Check.{Check}
+use Rattle.outcomes.specs.declared.Check.the-variants.{Level}
 use Rattle.outcomes.specs.declared.Refusal.{Refusal}
 use Rattle.outcomes.specs.declared.Refusal.the-variants.{NotStore, UsedUp}
 use Rattle.judging.proofs.Decide.{store-says}
@@ -51,10 +54,10 @@ same-count rel [] h = absurd (omega arith)
 same-count rel (x ∷ []) h = absurd (omega arith)
 same-count rel (x ∷ y ∷ m) h = refl
 
--- ONE MEMORY: m before the call, m₁ with the nodes b that a program left, m′ after `finish`
-module _ (K : Kind) (p : Prog) (B : Store) (m m₁ m′ b w w′ : List ℕ) (r : Arena) (a : Answer) (R : Room K m)
+-- ONE MEMORY: m before the call, m₁ with the nodes b that a program left, m′ after `commit`
+module _ (K : Kind) (p : Prog) (B : Store) (m m₁ m′ b w w′ : List ℕ) (r : Arena) (R : Room K m)
     (P : Runs K p B (arena true (count K m) 0) (body K m) b w w′ r) (put-back : m₁ ≡ take (head K) m ++ b)
-    (F : Finished m₁ m′ (head K) (arity K) (count K m) r a) where
+    (C : Committed m₁ m′ (head K) (arity K) (count K m) r) where
   abbrev S : Store
   S = plain K B (body K m) (count K m)
 
@@ -62,22 +65,20 @@ module _ (K : Kind) (p : Prog) (B : Store) (m m₁ m′ b w w′ : List ℕ) (r 
   left : r .ok ≡ true → nodes K (run p S .store) ≡ rows (arity K) (r .n) b
   left t = ap (nodes K) (sym (P .done t .store)) ∙ plain-nodes K B b (r .n)
 
-  pub fitted-memory : r .ok ≡ true → (let N = nodes K (run p S .store) in
-      (a ≡ Handle (run p S .value)) × (m′ ≡ write K (recount K m (length N)) N m))
-  fitted-memory t =
-      let u = F .fitted t in
-      let W = P .writes in
-      let l : length (nodes K (run p S .store)) ≡ r .n = ap length (left t) ∙ rows-length (arity K) (r .n) b in
-      let q : write K (recount K m (r .n)) (rows (arity K) (r .n) b) m ≡ recount K m (r .n) ++ b
-      = write-body K _ m b (r .n) (room-free K m (r .n) R (W .grows) (W .most)) (record { long = W .long; rest = W .rest }) in (
-        u .0 ∙ ap Handle (P .done t .value),
-        u .1 ∙ ap (λ x. put x (head K - 1) (r .n)) put-back ∙ put-count K m b (r .n) (R .headed) ∙ sym q
-            ∙ sym (λ i. write K (recount K m (l i)) (left t i) m),
-      )
+  pub fitted-count : r .ok ≡ true → length (nodes K (run p S .store)) ≡ r .n
+  fitted-count t = ap length (left t) ∙ rows-length (arity K) (r .n) b
 
-  pub full-memory : r .ok ≡ false → (a ≡ Declined UsedUp) × (m′ ≡ m)
+  pub fitted-memory : r .ok ≡ true → (let N = nodes K (run p S .store) in m′ ≡ write K (recount K m (length N)) N m)
+  fitted-memory t =
+      let W = P .writes in
+      let l = fitted-count t in
+      let q : write K (recount K m (r .n)) (rows (arity K) (r .n) b) m ≡ recount K m (r .n) ++ b
+      = write-body K _ m b (r .n) (room-free K m (r .n) R (W .grows) (W .most)) (record { long = W .long; rest = W .rest }) in
+      C .fitted t ∙ ap (λ x. put x (head K - 1) (r .n)) put-back ∙ put-count K m b (r .n) (R .headed) ∙ sym q
+      ∙ sym (λ i. write K (recount K m (l i)) (left t i) m)
+
+  pub full-memory : r .ok ≡ false → m′ ≡ m
   full-memory f =
-      let u = F .full f in
       let W = P .writes in
       let c = arity K in
       let n = count K m in
@@ -91,11 +92,9 @@ module _ (K : Kind) (p : Prog) (B : Store) (m m₁ m′ b w w′ : List ℕ) (r 
       ∙ ap (λ x. take (head K) m ++ x) (W .head) ∙ sym (take-add (head K) (c * n) m) in
       let d : drop (head K + c * r .n) m₁ ≡ drop (head K + c * r .n) m
       = ap (drop (head K + c * r .n)) put-back ∙ ap (λ k. drop (k + c * r .n) (take (head K) m ++ b)) (sym h) ∙ drop-append-add (take (head K) m) b (c * r .n)
-      ∙ W .rest ∙ drop-drop (c * r .n) (head K) m in (
-        u .0,
-        u .1 ∙ cleared-back m m₁ (head K + c * n) (head K + c * r .n) (omega arith) (omega (arith, length-drop (head K) m, R .headed))
-            (λ j l. R .blank j (omega arith)) t d,
-      )
+      ∙ W .rest ∙ drop-drop (c * r .n) (head K) m in
+      C .full f ∙ cleared-back m m₁ (head K + c * n) (head K + c * r .n) (omega arith) (omega (arith, length-drop (head K) m, R .headed))
+      (λ j l. R .blank j (omega arith)) t d
 
 -- BOTH MEMORIES
 abbrev pub with-memory : Kind → List ℕ → Memories → Memories
@@ -116,33 +115,28 @@ unfolding encode decode
 encode-one set M N s = ap (λ r. memories r (write set (length N ∷ []) N (M .sets))) (same-memory rel (M .relations) (s .room rel))
 encode-one rel M N s = ap (λ t. memories (write rel (fields M ∷ length N ∷ []) N (M .relations)) t) (same-memory set (M .sets) (s .room set))
 
-module _ (v : ℕ → Store → Verdict) (M : Memories) where
-  pub not-store : store? M ≡ false → told (Declined NotStore) M ≡ on-store v M
-  unfolding on-store concludes
-  not-store e = sym (ap (λ u. concludes (set-places M) (rel-places M) u (decode M) M (λ S. encode (fields M) S M)) (provided-no _ _ _ e))
+-- what a verdict comes to on the memories M, `refuse` making answers of refusals
+abbrev pub ended : {A : Type 0} → (Refusal → A) → Memories → Verdict A → Told A Memories
+ended refuse M u = concludes (refuse UsedUp) (set-places M) (rel-places M) u (decode M) M (λ S. encode (fields M) S M)
+
+module _ {A : Type 0} (refuse : Refusal → A) (v : ℕ → Store → Verdict A) (M : Memories) where
+  -- from whether the memories are a store
+  begins : (c : Check) → provided NotStore (store? M) (Level (fields M)) ≡ c → on-store refuse v M ≡ ended refuse M (going refuse c (λ k. v k (decode M)))
+  unfolding on-store
+  begins c e = ap (λ c. ended refuse M (going refuse c (λ k. v k (decode M)))) e
+
+  pub not-store : store? M ≡ false → told (refuse NotStore) M ≡ on-store refuse v M
+  unfolding concludes
+  not-store e = sym (begins _ (provided-no _ _ _ e))
 
   -- on a store, the verdict is the call's
   module _ (s : IsStore M) where
-    pub judged : (u : Verdict) → v (fields M) (decode M) ≡ u
-        → on-store v M ≡ concludes (set-places M) (rel-places M) u (decode M) M (λ S. encode (fields M) S M)
-    unfolding on-store
-    judged u e = ap (λ u. concludes (set-places M) (rel-places M) u (decode M) M (λ S. encode (fields M) S M))
-        (provided-yes _ _ _ (decided-true (store-says M) s) ∙ e)
+    pub judged : (u : Verdict A) → v (fields M) (decode M) ≡ u → on-store refuse v M ≡ ended refuse M u
+    judged u e = begins _ (provided-yes _ _ _ (decided-true (store-says M) s)) ∙ ap (ended refuse M) e
 
-    pub declined : (r : Refusal) → v (fields M) (decode M) ≡ declines r → told (Declined r) M ≡ on-store v M
-    unfolding concludes
-    declined r e = sym (judged (declines r) e)
-
-    pub given : (a : Answer) → v (fields M) (decode M) ≡ gives a → told a M ≡ on-store v M
+    pub given : (a : A) → v (fields M) (decode M) ≡ gives a → told a M ≡ on-store refuse v M
     unfolding concludes
     given a e = sym (judged (gives a) e)
-
--- A PROGRAM, where it fits
-pub run-fits : (p : Prog) (M : Memories) → IsStore M → fits-places (set-places M) (rel-places M) (run p (decode M) .store) ≡ true
-    → on-store (λ k S. runs p) M ≡ told (Handle (run p (decode M) .value)) (encode (fields M) (run p (decode M) .store) M)
-unfolding concludes
-run-fits p M s f = judged (λ k S. runs p) M s (runs p) refl
-    ∙ ap (λ b. pick b (told (Handle (run p (decode M) .value)) (encode (fields M) (run p (decode M) .store) M)) (told (Declined UsedUp) M)) f
 
 -- A PROGRAM that ran on the nodes of one kind
 pub decoded : (K : Kind) (M : Memories) → plain K (decode M) (body K (memory K M)) (count K (memory K M)) ≡ decode M
@@ -177,19 +171,24 @@ with-twice : (K : Kind) (N : Nodes) (S : Store) → nodes K (with-nodes K N S) �
 with-twice set N S = refl
 with-twice rel N S = refl
 
-module _ (v : ℕ → Store → Verdict) (M : Memories) (s : IsStore M) (K : Kind) (p : Prog) (m₁ m′ b w w′ : List ℕ) (r : Arena) (a : Answer)
-    (e : v (fields M) (decode M) ≡ runs p) (P : Runs K p (decode M) (arena true (count K (memory K M)) 0) (body K (memory K M)) b w w′ r)
-    (put-back : m₁ ≡ take (head K) (memory K M) ++ b) (F : Finished m₁ m′ (head K) (arity K) (count K (memory K M)) r a) where
+with-others : (K : Kind) (N : Nodes) (S : Store) → nodes (other K) (with-nodes K N S) ≡ nodes (other K) S
+with-others set N S = refl
+with-others rel N S = refl
+
+module _ {A : Type 0} (refuse : Refusal → A) (v : ℕ → Store → Verdict A) (M : Memories) (s : IsStore M) (K : Kind) (p : Prog) (g : Ran → A)
+    (m₁ m′ b w w′ : List ℕ) (r : Arena) (a : A) (e : v (fields M) (decode M) ≡ runs p g)
+    (P : Runs K p (decode M) (arena true (count K (memory K M)) 0) (body K (memory K M)) b w w′ r) (put-back : m₁ ≡ take (head K) (memory K M) ++ b)
+    (C : Committed m₁ m′ (head K) (arity K) (count K (memory K M)) r) (E : Ends K (decode M) r (run p (decode M)) g (refuse UsedUp) a) where
   abbrev S₀ : Store
   S₀ = plain K (decode M) (body K (memory K M)) (count K (memory K M))
 
   abbrev S′ : Store
   S′ = run p (decode M) .store
 
-  ended : on-store v M
-      ≡ pick (fits-places (set-places M) (rel-places M) S′) (told (Handle (run p (decode M) .value)) (encode (fields M) S′ M)) (told (Declined UsedUp) M)
+  picked : on-store refuse v M
+      ≡ pick (fits-places (set-places M) (rel-places M) S′) (told (g (run p (decode M))) (encode (fields M) S′ M)) (told (refuse UsedUp) M)
   unfolding concludes
-  ended = judged v M s (runs p) e
+  picked = judged refuse v M s (runs p g) e
 
   same-run : run p S₀ ≡ run p (decode M)
   same-run = ap (run p) (decoded K M)
@@ -204,25 +203,40 @@ module _ (v : ℕ → Store → Verdict) (M : Memories) (s : IsStore M) (K : Kin
       let q : plain K (decode M) b (r .n) ≡ S′ = P .done t .store ∙ ap (λ R. R .store) same-run in
       sym q ∙ ap (λ N. with-nodes K N (decode M)) (sym (with-twice K (rows (arity K) (r .n) b) (decode M)) ∙ ap (nodes K) q)
 
-  ran-fits : r .ok ≡ true → told a (with-memory K m′ M) ≡ on-store v M
+  all-fitted : r .ok ≡ true → Fitted K (decode M) r (run p (decode M))
+  all-fitted t = record {
+    value = P .done t .value ∙ ap (λ R. R .value) same-run;
+    count = ap (λ R. length (nodes K (R .store))) (sym same-run) ∙ fitted-count K p (decode M) (memory K M) m₁ m′ b w w′ r (s .room K) P put-back C t;
+    others = ap (nodes (other K)) (one-kind t) ∙ with-others K (nodes K S′) (decode M);
+  }
+
+  ran-fits : r .ok ≡ true → told a (with-memory K m′ M) ≡ on-store refuse v M
   ran-fits t =
       let N = nodes K S′ in
-      let f = fitted-memory K p (decode M) (memory K M) m₁ m′ b w w′ r a (s .room K) P put-back F t in
-      let g : fits-places (set-places M) (rel-places M) S′ ≡ true
+      let f : fits-places (set-places M) (rel-places M) S′ ≡ true
       = ap (fits-places (set-places M) (rel-places M)) (one-kind t) ∙ fits-one K M N s (sym okay ∙ t) in
       let x : m′ ≡ write K (recount K (memory K M) (length N)) N (memory K M)
-      = f .1 ∙ ap (λ R. write K (recount K (memory K M) (length (nodes K (R .store)))) (nodes K (R .store)) (memory K M)) same-run in
+      = fitted-memory K p (decode M) (memory K M) m₁ m′ b w w′ r (s .room K) P put-back C t
+      ∙ ap (λ R. write K (recount K (memory K M) (length (nodes K (R .store)))) (nodes K (R .store)) (memory K M)) same-run in
       let y : encode (fields M) S′ M ≡ with-memory K m′ M
       = ap (λ S. encode (fields M) S M) (one-kind t) ∙ encode-one K M N s ∙ ap (λ x. with-memory K x M) (sym x) in
-      sym (ended ∙ ap (λ b. pick b (told (Handle (run p (decode M) .value)) (encode (fields M) S′ M)) (told (Declined UsedUp) M)) g
-      ∙ (λ i. told (Handle (sym same-run i .value)) (y i)) ∙ ap (λ a. told a (with-memory K m′ M)) (sym (f .0)))
+      sym (picked ∙ ap (λ b. pick b (told (g (run p (decode M))) (encode (fields M) S′ M)) (told (refuse UsedUp) M)) f
+      ∙ (λ i. told (sym (E .fitted t (all-fitted t)) i) (y i)))
 
-  ran-full : r .ok ≡ false → told a (with-memory K m′ M) ≡ on-store v M
+  ran-full : r .ok ≡ false → told a (with-memory K m′ M) ≡ on-store refuse v M
   ran-full t =
-      let f = full-memory K p (decode M) (memory K M) m₁ m′ b w w′ r a (s .room K) P put-back F t in
-      let g = full-one K M S′ (sym okay ∙ t) in
-      (λ i. told (f .0 i) (with-memory K (f .1 i) M)) ∙ ap (told (Declined UsedUp)) (with-same K M)
-      ∙ sym (ended ∙ ap (λ b. pick b (told (Handle (run p (decode M) .value)) (encode (fields M) S′ M)) (told (Declined UsedUp) M)) g)
+      let f = full-memory K p (decode M) (memory K M) m₁ m′ b w w′ r (s .room K) P put-back C t in
+      let o = full-one K M S′ (sym okay ∙ t) in
+      (λ i. told (E .full t i) (with-memory K (f i) M)) ∙ ap (told (refuse UsedUp)) (with-same K M)
+      ∙ sym (picked ∙ ap (λ b. pick b (told (g (run p (decode M))) (encode (fields M) S′ M)) (told (refuse UsedUp) M)) o)
 
-  pub ran-on : told a (with-memory K m′ M) ≡ on-store v M
-  ran-on = by-test (λ b. r .ok ≡ b → told a (with-memory K m′ M) ≡ on-store v M) (r .ok) (λ t u. ran-fits u) (λ t u. ran-full u) refl
+  pub ran-on : told a (with-memory K m′ M) ≡ on-store refuse v M
+  ran-on = by-test (λ b. r .ok ≡ b → told a (with-memory K m′ M) ≡ on-store refuse v M) (r .ok) (λ t u. ran-fits u) (λ t u. ran-full u) refl
+
+-- how `finish` ends a run that gives a handle
+pub finished-commits : {m m′ : List ℕ} {start c n : ℕ} {r : Arena} {a : Answer} → Finished m m′ start c n r a → Committed m m′ start c n r
+finished-commits F = record { fitted = λ t. F .fitted t .1; full = λ f. F .full f .1 }
+
+pub finished-ends : {m m′ : List ℕ} {start c n : ℕ} {r : Arena} {a : Answer} (K : Kind) (S : Store) (R : Ran) → Finished m m′ start c n r a
+    → Ends K S r R handle-of (Declined UsedUp) a
+finished-ends K S R F = record { fitted = λ t D. F .fitted t .0 ∙ ap Handle (D .value); full = λ f. F .full f .0 }

@@ -9,7 +9,7 @@ use lib.Seq.{length-take-le}
 use lib.Dec.{T}
 use borrow.Rule.Slice.PartMut.{putMid}
 use Rattle.nodes.specs.Store.{Kind, set, rel, arity, Store, nodes}
-use Rattle.nodes.specs.Programs.{Prog}
+use Rattle.nodes.specs.Programs.{Prog, Ran, run}
 use Rattle.nodes.specs.Safety.{Safe}
 use Rattle.nodes.specs.WellFormed.{WellFormed}
 use Rattle.memory.specs.Arena.{arena, other, Condition, PerformsOn, Beside, Runs}
@@ -18,19 +18,19 @@ use Rattle.memory.specs.Working.{Right}
 use Rattle.memory.specs.declared.Arena.{Arena}
 use Rattle.memory.proofs.Rows.{places-fit}
 use Rattle.outcomes.specs.OnMemories.{on-store}
-use Rattle.outcomes.specs.Checking.{checked, Low, Goes, Checks, ChecksBoth, Accepted}
-use Rattle.outcomes.specs.Finishing.{Finished}
+use Rattle.outcomes.specs.Checking.{Low, Goes, Checks, ChecksBoth, Accepted}
+use Rattle.outcomes.specs.Finishing.{Ends}
+use Rattle.judging.specs.Commit.{Committed}
 use Rattle.judging.specs.Judging.{kind-last, both, StoreJudged}
 use Rattle.judging.specs.Memory.{Memories, memory, head, count, fields, body, decode}
-use Rattle.outcomes.specs.Outcome.{Verdict, runs, told}
+use Rattle.outcomes.specs.Outcome.{Verdict, runs, going, told}
 use Rattle.judging.specs.Valid.{IsStore}
-use Rattle.outcomes.specs.declared.Answer.{Answer}
-use Rattle.outcomes.specs.declared.Answer.the-variants.{Declined}
 use Rattle.outcomes.specs.declared.Check.{Check}
 use Rattle.outcomes.specs.declared.Check.the-variants.{Level, No}
 use Rattle.outcomes.specs.declared.Refusal.{Refusal}
+use Rattle.outcomes.specs.declared.Refusal.the-variants.{UsedUp}
 use Rattle.judging.proofs.Decide.{store-says}
-use Rattle.outcomes.proofs.Outcomes.{with-memory, decoded, declined, ran-on}
+use Rattle.outcomes.proofs.Outcomes.{with-memory, decoded, given, ran-on}
 use Rattle.judging.proofs.Whole.{whole-part}
 use Rattle.outcomes.proofs.Writing.{tail-put}
 
@@ -64,20 +64,21 @@ ready-here K M w n Y en = let e = whole-part (head K) (memory K M) in record {
 }
 
 -- A CHECK that says how the call goes on
-module _ (M : Memories) (s : IsStore M) (judge : ℕ → Store → (ℕ → Verdict) → Verdict) (r : Check) (G : Goes (fields M) (decode M) (judge (fields M)) r) where
-  pub check-no : (v : ℕ → Store → ℕ → Verdict) (q : Refusal) → r ≡ No q → told (Declined q) M ≡ on-store (λ k S. judge k S (v k S)) M
-  check-no v q e = declined _ M s q (G .says _ ∙ ap (λ r. checked r (v (fields M) (decode M))) e)
+module _ (M : Memories) (s : IsStore M) (judge : ℕ → Store → Check) (r : Check) (G : Goes (fields M) (decode M) (judge (fields M)) r) where
+  module _ {A : Type 0} (refuse : Refusal → A) where
+    pub check-no : (v : ℕ → Store → ℕ → Verdict A) (q : Refusal) → r ≡ No q → told (refuse q) M ≡ on-store refuse (λ k S. going refuse (judge k S) (v k S)) M
+    check-no v q e = given refuse _ M s (refuse q) (ap (λ c. going refuse c (v (fields M) (decode M))) (G .says ∙ e))
 
-  pub check-goes : (v : ℕ → Verdict) (l : ℕ) → r ≡ Level l → judge (fields M) (decode M) v ≡ v l
-  check-goes v l e = G .says v ∙ ap (λ r. checked r v) e
+    pub check-goes : (v : ℕ → Verdict A) (l : ℕ) → r ≡ Level l → going refuse (judge (fields M) (decode M)) v ≡ v l
+    check-goes v l e = ap (λ c. going refuse c v) (G .says ∙ e)
 
   pub check-low : (l : ℕ) → r ≡ Level l → l ≤ 32
   check-low l e = let h = subst (Low (fields M)) e (G .low) in let f = s .few in omega arith
 
-pub checked-here : {M : Memories} {n : ℕ} {judge : Store → (ℕ → Verdict) → Verdict} {r : Check} (K : Kind) (s : IsStore M)
+pub checked-here : {M : Memories} {n : ℕ} {judge : Store → Check} {r : Check} (K : Kind) (s : IsStore M)
     → n ≡ count K (memory K M) → Checks K (part-of K M) n (fields M) judge r → Goes (fields M) (decode M) judge r
 checked-here {M} {n} {judge} {r} K s en C = let e = nodes-here K M s n en in record {
-  says = λ v. subst (λ S. judge S v ≡ checked r v) e (C .says (decode M) (room-here K M s n en) (subst (WellFormed (fields M)) (sym e) (s .formed)) v);
+  says = subst (λ S. judge S ≡ r) e (C .says (decode M) (room-here K M s n en) (subst (WellFormed (fields M)) (sym e) (s .formed)));
   low = C .low;
 }
 
@@ -94,7 +95,7 @@ module _ (M : Memories) (s : IsStore M) where
     within = room-here L M s j e;
   }
 
-  pub both-here : {judge : Store → (ℕ → Verdict) → Verdict} {r : Check} {n j : ℕ} → n ≡ count rel (M .relations) → j ≡ count set (M .sets)
+  pub both-here : {judge : Store → Check} {r : Check} {n j : ℕ} → n ≡ count rel (M .relations) → j ≡ count set (M .sets)
       → ChecksBoth (part-of rel M) n (part-of set M) j (fields M) judge r → Goes (fields M) (decode M) judge r
   both-here {judge} {r} {n} {j} en ej C =
       let a = beside-here set n en in
@@ -136,8 +137,9 @@ module _ (K : Kind) (M : Memories) (w : List ℕ) (Y : Accepted K M w) (n : ℕ)
           omega (arith, l, W .long, places-fit (arity K) (body K m) (r .n) (W .most)),
         )
 
-    pub ran-here : (v : ℕ → Store → Verdict) (m′ : List ℕ) (a : Answer) → v (fields M) (decode M) ≡ runs p
-        → Finished (putMid (head K) (length m - head K) m b) m′ (head K) (arity K) n r a → told a (with-memory K m′ M) ≡ on-store v M
-    ran-here v m′ a e F =
-        ran-on v M (Y .store) K p (putMid (head K) (length m - head K) m b) m′ b w w′ r a e runs-here (tail-put (head K) m b)
-        (subst (λ n. Finished (putMid (head K) (length m - head K) m b) m′ (head K) (arity K) n r a) en F)
+    pub ran-here : {A : Type 0} (refuse : Refusal → A) (v : ℕ → Store → Verdict A) (f : Ran → A) (m′ : List ℕ) (a : A) → v (fields M) (decode M) ≡ runs p f
+        → Committed (putMid (head K) (length m - head K) m b) m′ (head K) (arity K) n r → Ends K (decode M) r (run p (decode M)) f (refuse UsedUp) a
+        → told a (with-memory K m′ M) ≡ on-store refuse v M
+    ran-here refuse v f m′ a e C E =
+        ran-on refuse v M (Y .store) K p f (putMid (head K) (length m - head K) m b) m′ b w w′ r a e runs-here (tail-put (head K) m b)
+        (subst (λ n. Committed (putMid (head K) (length m - head K) m b) m′ (head K) (arity K) n r) en C) E

@@ -11,14 +11,14 @@ use Rattle.nodes.specs.WellFormed.{WellFormed, is-held, level-of}
 use Rattle.memory.specs.Noting.{LevelIs}
 use Rattle.memory.specs.Rows.{places}
 use Rattle.memory.proofs.Rows.{rows-length}
-use Rattle.outcomes.specs.Checking.{checked, Low, Checks, ChecksBoth}
+use Rattle.outcomes.specs.Checking.{Low, Checks, ChecksBoth}
 use Rattle.judging.specs.Judging.{both}
-use Rattle.outcomes.specs.Outcome.{Verdict, provided, of-pair, of-path}
+use Rattle.outcomes.specs.Outcome.{also, of-pair, of-path}
 use Rattle.outcomes.specs.declared.Check.{Check}
 use Rattle.outcomes.specs.declared.Check.the-variants.{Level, No}
 use Rattle.outcomes.specs.declared.Refusal.{Refusal}
 use Rattle.outcomes.specs.declared.Refusal.the-variants.{NotHeld, LevelsDiffer}
-use Rattle.outcomes.proofs.Handles.{provided-yes, provided-no, pair-first, pair-second, pair-apart, pair-are, level-told, then-no, then-yes, still-no}
+use Rattle.outcomes.proofs.Handles.{provided-yes, provided-no, pair-first, pair-second, pair-apart, pair-are, level-told, also-no, also-yes, still-no}
 
 -- whether h is held among n nodes of c numbers, as `is_held` says it
 abbrev HeldIs : ℕ → ℕ → ℕ → Bool → Type 0
@@ -26,7 +26,7 @@ HeldIs c n h x = (K : Kind) (S : Store) → c ≡ arity K → length (nodes K S)
 
 module _ (o t : List ℕ) (n j k : ℕ) where
   -- a check of relations alone
-  pub checks-relations : {judge : Store → (ℕ → Verdict) → Verdict} {r : Check} → Checks rel o n k judge r → ChecksBoth o n t j k judge r
+  pub checks-relations : {judge : Store → Check} {r : Check} → Checks rel o n k judge r → ChecksBoth o n t j k judge r
   checks-relations C = record { goes = λ f g F. record { says = C .says (both rel o n t j) f F; low = C .low } }
 
   -- A RELATION a AND A SET p
@@ -34,30 +34,30 @@ module _ (o t : List ℕ) (n j k : ℕ) where
     held-relation : is-held rel (both rel o n t j) a ≡ x
     held-relation = A rel (both rel o n t j) refl (rows-length 4 n o)
 
-    pub pair-no-relation : x ≡ false → ChecksBoth o n t j k (λ S v. of-pair k S rel a set p v) (No NotHeld)
-    pair-no-relation e = record { goes = λ f g F. record { says = λ v. pair-first rel set F a p v (held-relation ∙ e); low = tt } }
+    pub pair-no-relation : x ≡ false → ChecksBoth o n t j k (λ S. of-pair k S rel a set p) (No NotHeld)
+    pair-no-relation e = record { goes = λ f g F. record { says = pair-first rel set F a p (held-relation ∙ e); low = tt } }
 
     module _ {y : Bool} (e : x ≡ true) (P : HeldIs 2 j p y) where
       held-set : is-held set (both rel o n t j) p ≡ y
       held-set = P set (both rel o n t j) refl (rows-length 2 j t)
 
-      pub pair-no-set : y ≡ false → ChecksBoth o n t j k (λ S v. of-pair k S rel a set p v) (No NotHeld)
-      pair-no-set f = record { goes = λ _ _ F. record { says = λ v. pair-second rel set F a p v (held-relation ∙ e) (held-set ∙ f); low = tt } }
+      pub pair-no-set : y ≡ false → ChecksBoth o n t j k (λ S. of-pair k S rel a set p) (No NotHeld)
+      pair-no-set f = record { goes = λ _ _ F. record { says = pair-second rel set F a p (held-relation ∙ e) (held-set ∙ f); low = tt } }
 
       module _ {l i : ℕ} (f : y ≡ true) (L : LevelIs o 4 k a l) (I : LevelIs t 2 k p i) where
-        pub pair-levels-differ : (i ≡ l → ⊥) → ChecksBoth o n t j k (λ S v. of-pair k S rel a set p v) (No LevelsDiffer)
+        pub pair-levels-differ : (i ≡ l → ⊥) → ChecksBoth o n t j k (λ S. of-pair k S rel a set p) (No LevelsDiffer)
         pair-levels-differ d = record {
           goes = λ r s F. record {
-            says = λ v. pair-apart rel set F a p v l i (held-relation ∙ e) (held-set ∙ f)
+            says = pair-apart rel set F a p l i (held-relation ∙ e) (held-set ∙ f)
                 (level-told rel (both rel o n t j) o n L refl r F (held-relation ∙ e)) (level-told set (both rel o n t j) t j I refl s F (held-set ∙ f)) d;
             low = tt;
           };
         }
 
-        pub pair-goes : l ≤ k → i ≡ l → ChecksBoth o n t j k (λ S v. of-pair k S rel a set p v) (Level l)
+        pub pair-goes : l ≤ k → i ≡ l → ChecksBoth o n t j k (λ S. of-pair k S rel a set p) (Level l)
         pair-goes b d = record {
           goes = λ r s F. record {
-            says = λ v. pair-are rel set F a p v l i (held-relation ∙ e) (held-set ∙ f)
+            says = pair-are rel set F a p l i (held-relation ∙ e) (held-set ∙ f)
                 (level-told rel (both rel o n t j) o n L refl r F (held-relation ∙ e)) (level-told set (both rel o n t j) t j I refl s F (held-set ∙ f)) d;
             low = b;
           };
@@ -68,41 +68,36 @@ module _ (o t : List ℕ) (n j k : ℕ) where
     held-output : is-held set (both rel o n t j) q ≡ x
     held-output = Q set (both rel o n t j) refl (rows-length 2 j t)
 
-    pub path-no-output : x ≡ false → ChecksBoth o n t j k (λ S v. of-path k S p a q v) (No NotHeld)
+    pub path-no-output : x ≡ false → ChecksBoth o n t j k (λ S. of-path k S p a q) (No NotHeld)
     unfolding of-path
-    path-no-output e = record { goes = λ f g F. record { says = λ v. provided-no _ _ _ (held-output ∙ e); low = tt } }
+    path-no-output e = record { goes = λ f g F. record { says = provided-no _ _ _ (held-output ∙ e); low = tt } }
 
-    module _ (r : Check) (e : x ≡ true) (C : ChecksBoth o n t j k (λ S v. of-pair k S rel a set p v) r) where
-      -- what follows the check of the other two
-      then-level : (v : ℕ → Verdict) → ℕ → Verdict
-      then-level v l = provided LevelsDiffer (eqb (level-of k set (both rel o n t j) q) l) (v l)
+    module _ (r : Check) (e : x ≡ true) (C : ChecksBoth o n t j k (λ S. of-pair k S rel a set p) r) where
+      -- after the check of the other two
+      third : {c : Check} → also (of-pair k (both rel o n t j) rel a set p) LevelsDiffer (λ l. eqb (level-of k set (both rel o n t j) q) l) ≡ c
+          → of-path k (both rel o n t j) p a q ≡ c
+      unfolding of-path
+      third d = provided-yes _ _ _ (held-output ∙ e) ∙ d
 
-      third : n ≤ places 4 o → j ≤ places 2 t → WellFormed k (both rel o n t j) → (v : ℕ → Verdict)
-          → of-path k (both rel o n t j) p a q v ≡ checked r (then-level v)
-      unfolding of-path then-level
-      third f g F v = provided-yes _ _ _ (held-output ∙ e) ∙ C .goes f g F .says (then-level v)
-
-      pub path-declined : (y : Refusal) → r ≡ No y → ChecksBoth o n t j k (λ S v. of-path k S p a q v) r
-      path-declined y u = record { goes = λ f g F. record { says = λ v. still-no y (then-level v) v u (third f g F v); low = C .goes f g F .low } }
+      pub path-declined : (y : Refusal) → r ≡ No y → ChecksBoth o n t j k (λ S. of-path k S p a q) r
+      path-declined y u = record { goes = λ f g F. record { says = third (still-no _ _ (C .goes f g F .says) y u); low = C .goes f g F .low } }
 
       module _ {l i : ℕ} (u : r ≡ Level l) (I : LevelIs t 2 k q i) where
         level : j ≤ places 2 t → WellFormed k (both rel o n t j) → i ≡ level-of k set (both rel o n t j) q
         level g F = level-told set (both rel o n t j) t j I refl g F (held-output ∙ e)
 
-        pub path-levels-differ : (i ≡ l → ⊥) → ChecksBoth o n t j k (λ S v. of-path k S p a q v) (No LevelsDiffer)
-        unfolding then-level
+        pub path-levels-differ : (i ≡ l → ⊥) → ChecksBoth o n t j k (λ S. of-path k S p a q) (No LevelsDiffer)
         path-levels-differ d = record {
           goes = λ f g F. record {
-            says = λ v. then-no LevelsDiffer (λ l. eqb (level-of k set (both rel o n t j) q) l) v (third f g F v) l u (ne-eqb _ _ (λ z. d (level g F ∙ z)));
+            says = third (also-no _ _ (C .goes f g F .says) l u (ne-eqb _ _ (λ z. d (level g F ∙ z))));
             low = tt;
           };
         }
 
-        pub path-goes : i ≡ l → ChecksBoth o n t j k (λ S v. of-path k S p a q v) (Level l)
-        unfolding then-level
+        pub path-goes : i ≡ l → ChecksBoth o n t j k (λ S. of-path k S p a q) (Level l)
         path-goes d = record {
           goes = λ f g F. record {
-            says = λ v. then-yes LevelsDiffer (λ l. eqb (level-of k set (both rel o n t j) q) l) v (third f g F v) l u (eq-eqb _ _ (sym (level g F) ∙ d));
+            says = third (also-yes _ _ (C .goes f g F .says) l u (eq-eqb _ _ (sym (level g F) ∙ d)));
             low = subst (Low k) u (C .goes f g F .low);
           };
         }

@@ -12,33 +12,26 @@ use Rattle.memory.specs.Working.{Right}
 use Rattle.judging.specs.Judging.{both}
 use Rattle.judging.specs.Memory.{Memories, memory, count, body, decode}
 use Rattle.judging.specs.Valid.{IsStore}
-use Rattle.outcomes.specs.Outcome.{Verdict, declines}
-use Rattle.outcomes.specs.declared.Answer.{Answer}
 use Rattle.outcomes.specs.declared.Check.{Check}
 use Rattle.outcomes.specs.declared.Check.the-variants.{Level, No}
-
--- a call that goes on at a level, or its refusal
-abbrev pub checked : Check → (ℕ → Verdict) → Verdict
-checked (Level l) v = v l
-checked (No r) v = declines r
 
 -- a level is at most k
 abbrev pub Low : ℕ → Check → Type 0
 Low k (Level l) = l ≤ k
 Low k (No r) = Unit {0}
 
--- r says how a call goes on in S, after what it declines
-pub record Goes (k : ℕ) (S : Store) (judge : Store → (ℕ → Verdict) → Verdict) (r : Check) : Type 0 where
-  pub says : (v : ℕ → Verdict) → judge S v ≡ checked r v
+-- r is what a call declines in S
+pub record Goes (k : ℕ) (S : Store) (judge : Store → Check) (r : Check) : Type 0 where
+  pub says : judge S ≡ r
   pub low : Low k r
 
 -- the same over the first n nodes of m, whatever the nodes of the other kind
-pub record Checks (K : Kind) (m : List ℕ) (n k : ℕ) (judge : Store → (ℕ → Verdict) → Verdict) (r : Check) : Type 0 where
-  pub says : (B : Store) → n ≤ places (arity K) m → WellFormed k (plain K B m n) → (v : ℕ → Verdict) → judge (plain K B m n) v ≡ checked r v
+pub record Checks (K : Kind) (m : List ℕ) (n k : ℕ) (judge : Store → Check) (r : Check) : Type 0 where
+  pub says : (B : Store) → n ≤ places (arity K) m → WellFormed k (plain K B m n) → judge (plain K B m n) ≡ r
   pub low : Low k r
 
 -- the same over the first n relations of o and the first j sets of t
-pub record ChecksBoth (o : List ℕ) (n : ℕ) (t : List ℕ) (j k : ℕ) (judge : Store → (ℕ → Verdict) → Verdict) (r : Check) : Type 0 where
+pub record ChecksBoth (o : List ℕ) (n : ℕ) (t : List ℕ) (j k : ℕ) (judge : Store → Check) (r : Check) : Type 0 where
   pub goes : n ≤ places 4 o → j ≤ places 2 t → WellFormed k (both rel o n t j) → Goes k (both rel o n t j) judge r
 
 -- whether three held handles are at level l
@@ -48,10 +41,10 @@ AllAt m c k l x y z r = (K : Kind) (B : Store) (n : ℕ) → c ≡ arity K → n
     → (let S = plain K B m n in eqb (level-of k K S x) l && (eqb (level-of k K S y) l && eqb (level-of k K S z) l)) ≡ r
 
 -- r is the answer of a call that adds nothing, where what it reads is there; over each store with Q, over every store
-pub record AnsweredOn (Q : Condition) (K : Kind) (m w : List ℕ) (n : ℕ) (safe : Store → Type 0) (answer : Store → Answer) (r : Answer) : Type 0 where
+pub record AnsweredOn {A : Type 0} (Q : Condition) (K : Kind) (m w : List ℕ) (n : ℕ) (safe : Store → Type 0) (answer : Store → A) (r : A) : Type 0 where
   pub answers : (B : Store) → Q B → n ≤ places (arity K) m → Right K B w m n → safe (plain K B m n) → r ≡ answer (plain K B m n)
 
-abbrev pub Answered : Kind → List ℕ → List ℕ → ℕ → (Store → Type 0) → (Store → Answer) → Answer → Type 0
+abbrev pub Answered : {A : Type 0} → Kind → List ℕ → List ℕ → ℕ → (Store → Type 0) → (Store → A) → A → Type 0
 Answered K m w n safe answer r = AnsweredOn Any K m w n safe answer r
 
 -- memories that were judged: a store, with the working memory right for the nodes of kind K

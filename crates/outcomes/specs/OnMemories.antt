@@ -7,9 +7,13 @@ use Rattle.nodes.specs.Store.{set, rel, Store}
 use Rattle.nodes.specs.Images.{blank, new}
 use Rattle.judging.specs.Memory.{Memories, head, fields, places-in, decode, encode}
 use Rattle.judging.specs.Valid.{store?}
-use Rattle.outcomes.specs.Outcome.{Verdict, runs, provided, Told, concludes}
-use Rattle.outcomes.specs.declared.Refusal.the-variants.{NotStore, OutOfRange}
+use Rattle.outcomes.specs.Outcome.{Verdict, runs, provided, going, handle-of, Told, concludes}
+use Rattle.outcomes.specs.declared.Refusal.the-variants.{NotStore, OutOfRange, UsedUp}
+use Rattle.outcomes.specs.declared.Refusal.{Refusal}
+use Rattle.outcomes.specs.declared.Check.{Check}
+use Rattle.outcomes.specs.declared.Check.the-variants.{Level}
 use Rattle.outcomes.specs.declared.Answer.{Answer}
+use Rattle.outcomes.specs.declared.Answer.the-variants.{Declined}
 
 abbrev pub set-places : Memories → ℕ
 set-places M = places-in set (M .sets)
@@ -17,15 +21,20 @@ set-places M = places-in set (M .sets)
 abbrev pub rel-places : Memories → ℕ
 rel-places M = places-in rel (M .relations)
 
--- 01: "1 not a store" covers both memories and comes first
-unfoldable pub on-store : (ℕ → Store → Verdict) → Memories → Told Answer Memories
-on-store v M = concludes (set-places M) (rel-places M) (provided NotStore (store? M) (v (fields M) (decode M))) (decode M) M (λ S. encode (fields M) S M)
+-- 01: "1 not a store" covers both memories and comes first; the call goes on with the number of fields
+unfoldable pub on-store : {A : Type 0} → (Refusal → A) → (ℕ → Store → Verdict A) → Memories → Told A Memories
+on-store refuse v M =
+    concludes (refuse UsedUp) (set-places M) (rel-places M) (going refuse (provided NotStore (store? M) (Level (fields M))) (λ k. v k (decode M))) (decode M) M
+    (λ S. encode (fields M) S M)
 
 -- 01, `new`: "1 if relation memory has fewer than 2 numbers or set memory none"
 abbrev pub heads? : Memories → Bool
 heads? M = leb (head rel) (length (M .relations)) && leb (head set) (length (M .sets))
 
--- the memories lent to `new` need not be a store
+-- what `new` declines; the memories lent to it need not be a store
+abbrev pub new-declines : ℕ → Memories → Check
+new-declines k M = provided OutOfRange (leb k 32) (provided NotStore (heads? M) (Level k))
+
 unfoldable pub new-step : ℕ → Memories → Told Answer Memories
 new-step k M =
-    concludes (set-places M) (rel-places M) (provided OutOfRange (leb k 32) (provided NotStore (heads? M) (runs (new k)))) blank M (λ S. encode k S M)
+    concludes (Declined UsedUp) (set-places M) (rel-places M) (going Declined (new-declines k M) (λ k. runs (new k) handle-of)) blank M (λ S. encode k S M)

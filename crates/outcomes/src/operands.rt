@@ -1,14 +1,15 @@
 // Whether a call's operands are held, and at one level.
 ghost use mathlib.Core.Path.{_≡_};
 ghost use mathlib.Core.Bool.{_&&_};
-ghost use Prim.Native.Nat.{ℕ, _^_, _<_, _≤_};
+ghost use Prim.Native.Nat.{_^_, _<_, _≤_};
 ghost use lib.ListN.{length};
 ghost use lib.Dec.{ltb};
 ghost use Rattle.nodes.specs.Store.{Kind, set, rel, arity, Store, nodes};
 ghost use Rattle.nodes.specs.WellFormed.{is-held};
-ghost use Rattle.outcomes.specs.Outcome.{Verdict, provided, of-one, of-pair, of-two, of-four, of-path};
-ghost use Rattle.outcomes.specs.Checking.{checked, Low, Checks, ChecksBoth, AllAt};
+ghost use Rattle.outcomes.specs.Outcome.{provided, also, of-one, of-pair, of-two, of-four, of-path};
+ghost use Rattle.outcomes.specs.Checking.{Low, Checks, ChecksBoth, AllAt};
 ghost use Rattle.outcomes.specs.declared.Refusal.the-variants.{NoChildren, OutOfRange};
+ghost use Rattle.outcomes.specs.declared.Check.the-variants.{Level};
 
 // Whether a handle is held among n nodes of c numbers.
 fn is_held(c: usize, n: usize, h: u32) -> bool
@@ -40,7 +41,7 @@ fn all_held(c: usize, n: usize, x00: u32, x01: u32, x10: u32, x11: u32) -> bool
 // One operand.
 pub fn one(nodes: &[u32], c: usize, n: usize, k: u32, a: u32) -> crate::Check
     requires { ⌜ 0 < c ⌝ }
-    ensures { λ r. ⌜ ((K : Kind) → c ≡ arity K → Checks K (now (nodes .entry)) n k (λ S v. of-one k K S a v) r) ⌝ }
+    ensures { λ r. ⌜ ((K : Kind) → c ≡ arity K → Checks K (now (nodes .entry)) n k (λ S. of-one k K S a) r) ⌝ }
 {
     if !is_held(c, n, a) {
         return crate::Check::No(crate::Refusal::NotHeld);
@@ -51,7 +52,7 @@ pub fn one(nodes: &[u32], c: usize, n: usize, k: u32, a: u32) -> crate::Check
 // One operand that has children.
 pub fn parent(nodes: &[u32], c: usize, n: usize, k: u32, a: u32) -> crate::Check
     requires { ⌜ 0 < c ⌝ }
-    ensures { λ r. ⌜ ((K : Kind) → c ≡ arity K → Checks K (now (nodes .entry)) n k (λ S v. of-one k K S a (λ l. provided NoChildren (ltb 0 l) (v l))) r) ⌝ }
+    ensures { λ r. ⌜ ((K : Kind) → c ≡ arity K → Checks K (now (nodes .entry)) n k (λ S. also (of-one k K S a) NoChildren (λ l. ltb 0 l)) r) ⌝ }
 {
     let check = one(nodes, c, n, k, a);
     if let crate::Check::Level(l) = check {
@@ -65,7 +66,7 @@ pub fn parent(nodes: &[u32], c: usize, n: usize, k: u32, a: u32) -> crate::Check
 // Two operands of one kind.
 pub fn two(nodes: &[u32], c: usize, n: usize, k: u32, a: u32, b: u32) -> crate::Check
     requires { ⌜ 0 < c ⌝ }
-    ensures { λ r. ⌜ ((K : Kind) → c ≡ arity K → Checks K (now (nodes .entry)) n k (λ S v. of-two k K S a b v) r) ⌝ }
+    ensures { λ r. ⌜ ((K : Kind) → c ≡ arity K → Checks K (now (nodes .entry)) n k (λ S. of-two k K S a b) r) ⌝ }
 {
     if !is_held(c, n, a) {
         return crate::Check::No(crate::Refusal::NotHeld);
@@ -83,7 +84,7 @@ pub fn two(nodes: &[u32], c: usize, n: usize, k: u32, a: u32, b: u32) -> crate::
 // Two children, for a node above them.
 pub fn children(nodes: &[u32], c: usize, n: usize, k: u32, a: u32, b: u32) -> crate::Check
     requires { ⌜ 0 < c ⌝ }
-    ensures { λ r. ⌜ ((K : Kind) → c ≡ arity K → Checks K (now (nodes .entry)) n k (λ S v. of-two k K S a b (λ l. provided OutOfRange (ltb l k) (v l))) r) ⌝ }
+    ensures { λ r. ⌜ ((K : Kind) → c ≡ arity K → Checks K (now (nodes .entry)) n k (λ S. also (of-two k K S a b) OutOfRange (λ l. ltb l k)) r) ⌝ }
 {
     let check = two(nodes, c, n, k, a, b);
     if let crate::Check::Level(l) = check {
@@ -96,7 +97,7 @@ pub fn children(nodes: &[u32], c: usize, n: usize, k: u32, a: u32, b: u32) -> cr
 
 // A field and a value for it.
 pub fn field(k: u32, var: u32, value: u32) -> crate::Check
-    ensures { λ r. ⌜ ((v : ℕ → Verdict) → provided OutOfRange (ltb var k) (provided OutOfRange (ltb value 2) (v k)) ≡ checked r v) × Low k r ⌝ }
+    ensures { λ r. ⌜ (provided OutOfRange (ltb var k) (provided OutOfRange (ltb value 2) (Level k)) ≡ r) × Low k r ⌝ }
 {
     if var >= k {
         return crate::Check::No(crate::Refusal::OutOfRange);
@@ -111,7 +112,7 @@ pub fn field(k: u32, var: u32, value: u32) -> crate::Check
 pub fn branches(nodes: &[u32], c: usize, n: usize, k: u32, var: u32, a: u32, b: u32) -> crate::Check
     requires { ⌜ 0 < c ⌝ }
     ensures { λ r. ⌜ ((K : Kind) → c ≡ arity K → Checks K (now (nodes .entry)) n k
-        (λ S v. provided OutOfRange (ltb var k) (of-two k K S a b (λ l. provided NoChildren (ltb var l) (v l)))) r) ⌝ }
+        (λ S. provided OutOfRange (ltb var k) (also (of-two k K S a b) NoChildren (λ l. ltb var l))) r) ⌝ }
 {
     if var >= k {
         return crate::Check::No(crate::Refusal::OutOfRange);
@@ -152,7 +153,7 @@ pub fn four(
 ) -> crate::Check
     requires { ⌜ 0 < c ⌝ }
     ensures { λ r. ⌜ ((K : Kind) → c ≡ arity K → Checks K (now (nodes .entry)) n k
-        (λ S v. of-four k K S «x00» «x01» «x10» «x11» (λ l. provided OutOfRange (ltb l k) (v l))) r) ⌝ }
+        (λ S. also (of-four k K S «x00» «x01» «x10» «x11») OutOfRange (λ l. ltb l k)) r) ⌝ }
 {
     if !all_held(c, n, x00, x01, x10, x11) {
         return crate::Check::No(crate::Refusal::NotHeld);
@@ -177,7 +178,7 @@ pub fn pair(
     a: u32,
     p: u32,
 ) -> crate::Check
-    ensures { λ r. ⌜ ChecksBoth (now (relations .entry)) n (now (sets .entry)) m k (λ S v. of-pair k S rel a set p v) r ⌝ }
+    ensures { λ r. ⌜ ChecksBoth (now (relations .entry)) n (now (sets .entry)) m k (λ S. of-pair k S rel a set p) r ⌝ }
 {
     if !is_held(4, n, a) {
         return crate::Check::No(crate::Refusal::NotHeld);
@@ -203,7 +204,7 @@ pub fn path(
     a: u32,
     q: u32,
 ) -> crate::Check
-    ensures { λ r. ⌜ ChecksBoth (now (relations .entry)) n (now (sets .entry)) m k (λ S v. of-path k S p a q v) r ⌝ }
+    ensures { λ r. ⌜ ChecksBoth (now (relations .entry)) n (now (sets .entry)) m k (λ S. of-path k S p a q) r ⌝ }
 {
     if !is_held(2, m, q) {
         return crate::Check::No(crate::Refusal::NotHeld);
@@ -242,7 +243,7 @@ pub fn wide(x: u32) -> u64
 pub fn packets(nodes: &[u32], n: usize, k: u32, a: u32, input: u32, output: u32) -> crate::Check
     requires { ⌜ k ≤ 32 ⌝ }
     ensures { λ r. ⌜ Checks rel (now (nodes .entry)) n k
-        (λ S v. of-one k rel S a (λ l. provided OutOfRange (ltb input (2 ^ l)) (provided OutOfRange (ltb output (2 ^ l)) (v l)))) r ⌝ }
+        (λ S. also (also (of-one k rel S a) OutOfRange (λ l. ltb input (2 ^ l))) OutOfRange (λ l. ltb output (2 ^ l))) r ⌝ }
 {
     let check = one(nodes, 4, n, k, a);
     if let crate::Check::Level(l) = check {

@@ -6,62 +6,67 @@ use native.Mathlib.Omega.{arith}
 use lib.Dec.{T, leb→le}
 use lib.ListN.{length}
 use Rattle.nodes.specs.Places.{fits-places}
-use Rattle.nodes.specs.Programs.{run}
+use Rattle.nodes.specs.Programs.{Ran, run}
 use Rattle.nodes.specs.Store.{Store as Nodes, pick}
 use Rattle.nodes.proofs.Bools.{by-test}
 use Rattle.judging.specs.Memory.{Memories, fields, decode, encode}
 use Rattle.judging.specs.Valid.{store?}
-use Rattle.outcomes.specs.OnMemories.{set-places, rel-places}
-use Rattle.outcomes.specs.Outcome.{told}
+use Rattle.outcomes.specs.OnMemories.{set-places, rel-places, on-store}
+use Rattle.outcomes.specs.Outcome.{Verdict, gives, runs, provided, going, told, concludes}
+use Rattle.outcomes.specs.declared.Check.the-variants.{Level}
 use Rattle.outcomes.specs.declared.Refusal.the-variants.{NotStore, TooLong, UsedUp}
+use Rattle.texts.specs.XForms.{x-forms}
 use Rattle.texts.specs.Answers.{Says}
 use Rattle.texts.specs.Reading.{reading}
 use Rattle.texts.specs.declared.Reading.{Reading}
 use Rattle.texts.specs.declared.Reading.the-variants.{Policy, NotPolicy, TooDeep, NoField, NotPredicate}
+use Rattle.texts.proofs.XLaws.{x-lawful, x-bounds}
 use Rattle.texts.proofs.Says.{says}
-use Rattle.policies.specs.Outcome.{TextVerdict, refuses, builds, of-reading, short?, text-verdict, text-concludes, policy-step}
+use Rattle.policies.specs.Outcome.{refused, of-reading, short?, text-verdict, policy-step}
 use Rattle.policies.specs.declared.PolicyAnswer.{PolicyAnswer}
-use Rattle.policies.specs.declared.PolicyAnswer.the-variants.{Handle, Declined}
-use Rattle.policies.specs.declared.PolicyRefusal.the-variants.{Store}
 use Rattle.packet_store.specs.Exported.{offset}
 
-abbrev verdict-offset : TextVerdict → ℕ
-verdict-offset (refuses r) = offset (Declined r)
-verdict-offset (builds p) = 0
+-- whatever a verdict comes to has an offset of at most n
+abbrev OffsetBy : ℕ → Verdict PolicyAnswer → Type 0
+OffsetBy n (gives a) = offset a ≤ n
+OffsetBy n (runs p f) = (R : Ran) → offset (f R) ≤ n
 
 -- each fault is inside the text, or at its end
-reading-inside : (k : ℕ) (t : List ℕ) (r : Reading) → Says k t r → verdict-offset (of-reading k t r) ≤ length t
+reading-inside : (k : ℕ) (t : List ℕ) (r : Reading) → Says x-forms k t r → OffsetBy (length t) (of-reading k t r)
 unfolding Says of-reading
-reading-inside k t Policy s = omega arith
+reading-inside k t Policy s = λ R. omega arith
 reading-inside k t (NotPolicy i) s = s .inside
 reading-inside k t (TooDeep i) s = let h = s .inside in omega arith
 reading-inside k t (NoField i) s = let h = s .inside in omega arith
 reading-inside k t (NotPredicate i) s = let h = s .inside in omega arith
 
-verdict-short : (k : ℕ) (t : List ℕ) → verdict-offset (text-verdict t k) ≤ 4096
+more : (n : ℕ) (v : Verdict PolicyAnswer) → n ≤ 4096 → OffsetBy n v → OffsetBy 4096 v
+more n (gives a) h o = omega arith
+more n (runs p f) h o = λ R. let i = o R in omega arith
+
+verdict-short : (k : ℕ) (t : List ℕ) (S : Nodes) → OffsetBy 4096 (text-verdict t k S)
 unfolding text-verdict
-verdict-short k t = by-test (λ b. verdict-offset (pick b (of-reading k t (reading k t)) (refuses (Store TooLong))) ≤ 4096) (short? t)
-    (λ s. let h = reading-inside k t (reading k t) (says k t) in
-    let l = leb→le (length t) 4096 (subst T (sym s) tt) in omega arith)
+verdict-short k t S = by-test (λ b. OffsetBy 4096 (pick b (of-reading k t (reading x-forms k t)) (gives (refused TooLong)))) (short? t)
+    (λ s. more (length t) (of-reading k t (reading x-forms k t)) (leb→le (length t) 4096 (subst T (sym s) tt))
+    (reading-inside k t (reading x-forms k t) (says x-lawful k (x-bounds k) t)))
     (λ s. omega arith)
 
-concludes-offset : {X : Type 0} (m n : ℕ) (S : Nodes) (x : X) (put : Nodes → X) (v : TextVerdict)
-    → offset (text-concludes m n v S x put .answer) ≤ verdict-offset v
-unfolding text-concludes
-concludes-offset m n S x put (refuses r) = omega arith
-concludes-offset m n S x put (builds p) =
-    by-test (λ b. offset (pick b (told (Handle (run p S .value)) (put (run p S .store))) (told (Declined (Store UsedUp)) x) .answer) ≤ 0)
-    (fits-places m n (run p S .store)) (λ _. omega arith) (λ _. omega arith)
+concludes-offset : {X : Type 0} (m n : ℕ) (S : Nodes) (x : X) (put : Nodes → X) (v : Verdict PolicyAnswer) → OffsetBy 4096 v
+    → offset (concludes (refused UsedUp) m n v S x put .answer) ≤ 4096
+unfolding concludes
+concludes-offset m n S x put (gives a) o = o
+concludes-offset m n S x put (runs p f) o =
+    by-test (λ b. offset (pick b (told (f (run p S)) (put (run p S .store))) (told (refused UsedUp) x) .answer) ≤ 4096)
+    (fits-places m n (run p S .store)) (λ _. o (run p S)) (λ _. omega arith)
 
 module _ (t : List ℕ) (M : Memories) where
   step-short : offset (policy-step t M .answer) ≤ 4096
-  unfolding policy-step
-  step-short =
-      let v = pick (store? M) (text-verdict t (fields M)) (refuses (Store NotStore)) in
-      let h = concludes-offset (set-places M) (rel-places M) (decode M) M (λ S. encode (fields M) S M) v in
-      let l : verdict-offset v ≤ 4096 = by-test (λ b. verdict-offset (pick b (text-verdict t (fields M)) (refuses (Store NotStore))) ≤ 4096) (store? M)
-      (λ _. verdict-short (fields M) t) (λ _. omega arith) in
-      omega arith
+  unfolding policy-step on-store provided
+  step-short = by-test (λ b. offset (concludes (refused UsedUp) (set-places M) (rel-places M)
+      (going refused (provided NotStore b (Level (fields M))) (λ k. text-verdict t k (decode M))) (decode M) M (λ S. encode (fields M) S M) .answer) ≤ 4096)
+      (store? M)
+      (λ _. concludes-offset (set-places M) (rel-places M) (decode M) M (λ S. encode (fields M) S M) _ (verdict-short (fields M) t (decode M)))
+      (λ _. concludes-offset (set-places M) (rel-places M) (decode M) M (λ S. encode (fields M) S M) (gives (refused NotStore)) (omega arith))
 
   -- THE CLAIM, of what a policy call answers
   pub short-offset : (M′ : Memories) (a : PolicyAnswer) → told a M′ ≡ policy-step t M → offset a ≤ 4096

@@ -1,2 +1,1 @@
-pub mod TextOutcomes
 pub mod BuiltTexts

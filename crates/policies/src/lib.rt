@@ -6,6 +6,7 @@ ghost use Rattle.nodes.specs.Store.{rel};
 ghost use Rattle.judging.specs.Memory.{memories, fields};
 ghost use Rattle.outcomes.specs.Checking.{Accepted};
 ghost use Rattle.outcomes.specs.Outcome.{told};
+ghost use Rattle.texts.specs.XForms.{x-forms};
 ghost use Rattle.texts.specs.Reading.{reading};
 ghost use Rattle.texts.specs.declared.Reading.the-variants.{Policy};
 ghost use Rattle.policies.specs.Answers.{fault-number};
@@ -46,7 +47,7 @@ pub fn fault_number(f: Fault) -> u32
 // A text within the rules: it is built, and its nodes are kept where they fit.
 fn built(relations: &mut [u32], sets: &[u32], work: &mut [u32], text: &[u8]) -> PolicyAnswer
     requires { ⌜ Accepted rel (memories (now relations) (now sets)) (now work)
-        × (short? (now text) ≡ true) × (reading (fields (memories (now relations) (now sets))) (now text) ≡ Policy) ⌝ }
+        × (short? (now text) ≡ true) × (reading x-forms (fields (memories (now relations) (now sets))) (now text) ≡ Policy) ⌝ }
     ensures { λ r. ⌜ told r (memories (now (relations .exit)) (now (sets .entry)))
         ≡ policy-step (now (text .entry)) (memories (now (relations .entry)) (now (sets .entry))) ⌝ }
 {

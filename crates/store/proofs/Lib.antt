@@ -1,9 +1,6 @@
-pub mod Reading
-pub mod Going
 pub mod SetMeant
 pub mod RelationMeant
 pub mod ImageMeant
-pub mod CallSteps
 pub mod SetSteps
 pub mod RelationSteps
 pub mod ImageSteps

@@ -7,6 +7,7 @@ use Rattle.store.specs.SetCalls.{set-verdict, set-read-verdict}
 use Rattle.store.specs.RelationCalls.{relation-verdict, relation-read-verdict}
 use Rattle.store.specs.ImageCalls.{image-verdict, filter-verdict, path-verdict}
 use Rattle.outcomes.specs.declared.Answer.{Answer}
+use Rattle.outcomes.specs.declared.Answer.the-variants.{Declined}
 use Rattle.store.specs.declared.set_calls.SetCall.{SetCall}
 use Rattle.store.specs.declared.set_reads.SetRead.{SetRead}
 use Rattle.store.specs.declared.image_calls.ImageCall.{ImageCall}
@@ -28,10 +29,10 @@ pub data Call : Type 0 where
 -- the answer of a call on two memories, and the memories after it
 unfoldable pub step : Call → Memories → Told Answer Memories
 step (new-store k) M = new-step k M
-step (set-call c) M = on-store (set-verdict c) M
-step (set-read c) M = on-store (set-read-verdict c) M
-step (relation-call c) M = on-store (relation-verdict c) M
-step (relation-read c) M = on-store (relation-read-verdict c) M
-step (image-call c) M = on-store (image-verdict c) M
-step (filter-call c) M = on-store (filter-verdict c) M
-step (path-read c) M = on-store (path-verdict c) M
+step (set-call c) M = on-store Declined (set-verdict c) M
+step (set-read c) M = on-store Declined (set-read-verdict c) M
+step (relation-call c) M = on-store Declined (relation-verdict c) M
+step (relation-read c) M = on-store Declined (relation-read-verdict c) M
+step (image-call c) M = on-store Declined (image-verdict c) M
+step (filter-call c) M = on-store Declined (filter-verdict c) M
+step (path-read c) M = on-store Declined (path-verdict c) M

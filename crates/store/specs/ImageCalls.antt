@@ -3,8 +3,10 @@ use Prim.Native.Nat.{ℕ}
 use Rattle.nodes.specs.Store.{set, rel, Store}
 use Rattle.nodes.specs.Programs.{Prog}
 use Rattle.nodes.specs.Images.{fwd, bwd, push, pull, diagonal, ifwd, ibwd, has-image, has-path}
-use Rattle.outcomes.specs.Outcome.{Verdict, gives, runs, of-one, of-pair, of-path, yes-no}
+use Rattle.outcomes.specs.Outcome.{Verdict, gives, runs, going, handle-of, of-one, of-pair, of-path, yes-no}
+use Rattle.outcomes.specs.declared.Check.{Check}
 use Rattle.outcomes.specs.declared.Answer.{Answer}
+use Rattle.outcomes.specs.declared.Answer.the-variants.{Declined}
 use Rattle.store.specs.declared.image_calls.ImageCall.{ImageCall}
 use Rattle.store.specs.declared.image_calls.ImageCall.the-variants.{Fwd, Bwd, Push, Pull}
 use Rattle.store.specs.declared.filter_calls.FilterCall.{FilterCall}
@@ -13,11 +15,11 @@ use Rattle.store.specs.declared.path_reads.PathRead.{PathRead}
 use Rattle.store.specs.declared.path_reads.PathRead.the-variants.{HasImage, HasPath}
 
 -- CALLS THAT MAY ADD SETS. 01: "One-operand operations: 1; 2; 6. Those with two or three .. : 1; 2; 3; 6"
-abbrev pub image-declines : ℕ → ImageCall → Store → (ℕ → Verdict) → Verdict
-image-declines k (Fwd a) S v = of-one k rel S a v
-image-declines k (Bwd a) S v = of-one k rel S a v
-image-declines k (Push p a) S v = of-pair k S rel a set p v
-image-declines k (Pull a p) S v = of-pair k S rel a set p v
+abbrev pub image-declines : ℕ → ImageCall → Store → Check
+image-declines k (Fwd a) S = of-one k rel S a
+image-declines k (Bwd a) S = of-one k rel S a
+image-declines k (Push p a) S = of-pair k S rel a set p
+image-declines k (Pull a p) S = of-pair k S rel a set p
 
 abbrev pub image-program : ℕ → ImageCall → Prog
 image-program l (Fwd a) = fwd l a
@@ -25,31 +27,31 @@ image-program l (Bwd a) = bwd l a
 image-program l (Push p a) = push l p a
 image-program l (Pull a p) = pull l a p
 
-abbrev pub image-verdict : ImageCall → ℕ → Store → Verdict
-image-verdict c k S = image-declines k c S (λ l. runs (image-program l c))
+abbrev pub image-verdict : ImageCall → ℕ → Store → Verdict Answer
+image-verdict c k S = going Declined (image-declines k c S) (λ l. runs (image-program l c) handle-of)
 
 -- CALLS THAT MAY ADD RELATIONS
-abbrev pub filter-declines : ℕ → FilterCall → Store → (ℕ → Verdict) → Verdict
-filter-declines k (Diagonal p) S v = of-one k set S p v
-filter-declines k (Ifwd p) S v = of-one k set S p v
-filter-declines k (Ibwd p) S v = of-one k set S p v
+abbrev pub filter-declines : ℕ → FilterCall → Store → Check
+filter-declines k (Diagonal p) S = of-one k set S p
+filter-declines k (Ifwd p) S = of-one k set S p
+filter-declines k (Ibwd p) S = of-one k set S p
 
 abbrev pub filter-program : ℕ → FilterCall → Prog
 filter-program l (Diagonal p) = diagonal l p
 filter-program l (Ifwd p) = ifwd l p
 filter-program l (Ibwd p) = ibwd l p
 
-abbrev pub filter-verdict : FilterCall → ℕ → Store → Verdict
-filter-verdict c k S = filter-declines k c S (λ l. runs (filter-program l c))
+abbrev pub filter-verdict : FilterCall → ℕ → Store → Verdict Answer
+filter-verdict c k S = going Declined (filter-declines k c S) (λ l. runs (filter-program l c) handle-of)
 
 -- CALLS THAT ADD NOTHING
-abbrev pub path-declines : ℕ → PathRead → Store → (ℕ → Verdict) → Verdict
-path-declines k (HasImage p a) S v = of-pair k S rel a set p v
-path-declines k (HasPath p a q) S v = of-path k S p a q v
+abbrev pub path-declines : ℕ → PathRead → Store → Check
+path-declines k (HasImage p a) S = of-pair k S rel a set p
+path-declines k (HasPath p a q) S = of-path k S p a q
 
 abbrev pub path-answer : Store → ℕ → PathRead → Answer
 path-answer S l (HasImage p a) = yes-no (has-image l p a) S
 path-answer S l (HasPath p a q) = yes-no (has-path l p a q) S
 
-abbrev pub path-verdict : PathRead → ℕ → Store → Verdict
-path-verdict c k S = path-declines k c S (λ l. gives (path-answer S l c))
+abbrev pub path-verdict : PathRead → ℕ → Store → Verdict Answer
+path-verdict c k S = going Declined (path-declines k c S) (λ l. gives (path-answer S l c))

@@ -7,28 +7,30 @@ use Rattle.nodes.specs.Programs.{Prog, mk}
 use Rattle.nodes.specs.Recursion.{x0, x1}
 use Rattle.nodes.specs.Operations.{zero-at-depth, one-at-depth, union, intersect, xor, difference, is-zero, test}
 use Rattle.nodes.specs.Sets.{intersects, ifelse}
-use Rattle.outcomes.specs.Outcome.{Verdict, gives, runs, provided, of-one, of-two, yes-no}
+use Rattle.outcomes.specs.Outcome.{Verdict, gives, runs, going, handle-of, provided, also, of-one, of-two, yes-no}
 use Rattle.outcomes.specs.declared.Refusal.the-variants.{NoChildren, OutOfRange}
+use Rattle.outcomes.specs.declared.Check.{Check}
+use Rattle.outcomes.specs.declared.Check.the-variants.{Level}
 use Rattle.outcomes.specs.declared.Answer.{Answer}
-use Rattle.outcomes.specs.declared.Answer.the-variants.{Handle, SetNode}
+use Rattle.outcomes.specs.declared.Answer.the-variants.{Handle, SetNode, Declined}
 use Rattle.store.specs.declared.set_calls.SetCall.{SetCall}
 use Rattle.store.specs.declared.set_calls.SetCall.the-variants.{Mk, Zero, One, Union, Intersect, Xor, Difference, Test, Ifelse}
 use Rattle.store.specs.declared.set_reads.SetRead.{SetRead}
 use Rattle.store.specs.declared.set_reads.SetRead.the-variants.{Get, Complement, IsZero, Intersects}
 
--- CALLS THAT MAY ADD SETS. What a call declines after 1, in a store S of k fields, and then v, at its operands' level.
+-- CALLS THAT MAY ADD SETS. What a call declines after 1, in a store S of k fields, or its operands' level.
 -- 01, `mk`: "2; 3; 5 if the children are at level k"; `test`: "5 if the field is k or more", and a value is 0 or 1;
 -- `ifelse`: "5 likewise; 2; 3; 4 if the branches' level is not above the field"
-abbrev pub set-declines : ℕ → SetCall → Store → (ℕ → Verdict) → Verdict
-set-declines k (Mk a b) S v = of-two k set S a b (λ l. provided OutOfRange (ltb l k) (v l))
-set-declines k Zero S v = v k
-set-declines k One S v = v k
-set-declines k (Union a b) S v = of-two k set S a b v
-set-declines k (Intersect a b) S v = of-two k set S a b v
-set-declines k (Xor a b) S v = of-two k set S a b v
-set-declines k (Difference a b) S v = of-two k set S a b v
-set-declines k (Test f b) S v = provided OutOfRange (ltb f k) (provided OutOfRange (ltb b 2) (v k))
-set-declines k (Ifelse f t e) S v = provided OutOfRange (ltb f k) (of-two k set S t e (λ l. provided NoChildren (ltb f l) (v l)))
+abbrev pub set-declines : ℕ → SetCall → Store → Check
+set-declines k (Mk a b) S = also (of-two k set S a b) OutOfRange (λ l. ltb l k)
+set-declines k Zero S = Level k
+set-declines k One S = Level k
+set-declines k (Union a b) S = of-two k set S a b
+set-declines k (Intersect a b) S = of-two k set S a b
+set-declines k (Xor a b) S = of-two k set S a b
+set-declines k (Difference a b) S = of-two k set S a b
+set-declines k (Test f b) S = provided OutOfRange (ltb f k) (provided OutOfRange (ltb b 2) (Level k))
+set-declines k (Ifelse f t e) S = provided OutOfRange (ltb f k) (also (of-two k set S t e) NoChildren (λ l. ltb f l))
 
 -- what it runs, l being that level
 abbrev pub set-program : ℕ → ℕ → SetCall → Prog
@@ -42,15 +44,15 @@ set-program k l (Difference a b) = difference set l a b
 set-program k l (Test f b) = test set k f (eqb b 1)
 set-program k l (Ifelse f t e) = ifelse l f t e
 
-abbrev pub set-verdict : SetCall → ℕ → Store → Verdict
-set-verdict c k S = set-declines k c S (λ l. runs (set-program k l c))
+abbrev pub set-verdict : SetCall → ℕ → Store → Verdict Answer
+set-verdict c k S = going Declined (set-declines k c S) (λ l. runs (set-program k l c) handle-of)
 
 -- CALLS THAT ADD NOTHING. 01, `get`: "4 for handles 0 and 1"
-abbrev pub set-read-declines : ℕ → SetRead → Store → (ℕ → Verdict) → Verdict
-set-read-declines k (Get a) S v = of-one k set S a (λ l. provided NoChildren (ltb 0 l) (v l))
-set-read-declines k (Complement a) S v = of-one k set S a v
-set-read-declines k (IsZero a) S v = of-one k set S a v
-set-read-declines k (Intersects a b) S v = of-two k set S a b v
+abbrev pub set-read-declines : ℕ → SetRead → Store → Check
+set-read-declines k (Get a) S = also (of-one k set S a) NoChildren (λ l. ltb 0 l)
+set-read-declines k (Complement a) S = of-one k set S a
+set-read-declines k (IsZero a) S = of-one k set S a
+set-read-declines k (Intersects a b) S = of-two k set S a b
 
 abbrev pub set-read-answer : Store → ℕ → SetRead → Answer
 set-read-answer S l (Get a) = SetNode (x0 (get set S a)) (x1 (get set S a))
@@ -58,5 +60,5 @@ set-read-answer S l (Complement a) = Handle (signed 1 a)
 set-read-answer S l (IsZero a) = yes-no (is-zero set l a) S
 set-read-answer S l (Intersects a b) = yes-no (intersects l a b) S
 
-abbrev pub set-read-verdict : SetRead → ℕ → Store → Verdict
-set-read-verdict c k S = set-read-declines k c S (λ l. gives (set-read-answer S l c))
+abbrev pub set-read-verdict : SetRead → ℕ → Store → Verdict Answer
+set-read-verdict c k S = going Declined (set-read-declines k c S) (λ l. gives (set-read-answer S l c))

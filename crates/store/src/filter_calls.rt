@@ -19,7 +19,7 @@ pub enum FilterCall {
 
 // Whether a call may run on the first m sets.
 fn check(sets: &[u32], m: usize, k: u32, call: FilterCall) -> outcomes::Check
-    ensures { λ r. ⌜ Checks set (now (sets .entry)) m k (λ S v. filter-declines k call S v) r ⌝ }
+    ensures { λ r. ⌜ Checks set (now (sets .entry)) m k (λ S. filter-declines k call S) r ⌝ }
 {
     match call {
         FilterCall::Diagonal(p) => outcomes::operands::one(sets, 2, m, k, p),

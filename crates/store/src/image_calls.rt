@@ -27,7 +27,7 @@ fn check(
     k: u32,
     call: ImageCall,
 ) -> outcomes::Check
-    ensures { λ r. ⌜ ChecksBoth (now (relations .entry)) n (now (sets .entry)) m k (λ S v. image-declines k call S v) r ⌝ }
+    ensures { λ r. ⌜ ChecksBoth (now (relations .entry)) n (now (sets .entry)) m k (λ S. image-declines k call S) r ⌝ }
 {
     match call {
         ImageCall::Fwd(a) => outcomes::operands::one(relations, 4, n, k, a),

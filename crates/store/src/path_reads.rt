@@ -26,7 +26,7 @@ fn check(
     k: u32,
     call: PathRead,
 ) -> outcomes::Check
-    ensures { λ r. ⌜ ChecksBoth (now (relations .entry)) n (now (sets .entry)) m k (λ S v. path-declines k call S v) r ⌝ }
+    ensures { λ r. ⌜ ChecksBoth (now (relations .entry)) n (now (sets .entry)) m k (λ S. path-declines k call S) r ⌝ }
 {
     match call {
         PathRead::HasImage(p, a) => outcomes::operands::pair(relations, n, sets, m, k, a, p),

@@ -32,7 +32,7 @@ pub enum RelationCall {
 
 // Whether a call may run on the first n nodes.
 fn check(nodes: &[u32], n: usize, k: u32, call: RelationCall) -> outcomes::Check
-    ensures { λ r. ⌜ Checks rel (now (nodes .entry)) n k (λ S v. relation-declines k call S v) r ⌝ }
+    ensures { λ r. ⌜ Checks rel (now (nodes .entry)) n k (λ S. relation-declines k call S) r ⌝ }
 {
     match call {
         RelationCall::Mk(a, b, c, d) => outcomes::operands::four(nodes, 4, n, k, a, b, c, d),

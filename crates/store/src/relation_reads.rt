@@ -20,7 +20,7 @@ pub enum RelationRead {
 // The level of a call's operands on the first n nodes.
 fn check(nodes: &[u32], n: usize, k: u32, call: RelationRead) -> outcomes::Check
     requires { ⌜ k ≤ 32 ⌝ }
-    ensures { λ r. ⌜ Checks rel (now (nodes .entry)) n k (λ S v. relation-read-declines k call S v) r ⌝ }
+    ensures { λ r. ⌜ Checks rel (now (nodes .entry)) n k (λ S. relation-read-declines k call S) r ⌝ }
 {
     match call {
         RelationRead::Get(a) => outcomes::operands::parent(nodes, 4, n, k, a),

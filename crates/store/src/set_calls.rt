@@ -25,7 +25,7 @@ pub enum SetCall {
 
 // Whether a call may run on the first n nodes.
 fn check(nodes: &[u32], n: usize, k: u32, call: SetCall) -> outcomes::Check
-    ensures { λ r. ⌜ Checks set (now (nodes .entry)) n k (λ S v. set-declines k call S v) r ⌝ }
+    ensures { λ r. ⌜ Checks set (now (nodes .entry)) n k (λ S. set-declines k call S) r ⌝ }
 {
     match call {
         SetCall::Mk(a, b) => outcomes::operands::children(nodes, 2, n, k, a, b),

@@ -19,7 +19,7 @@ pub enum SetRead {
 
 // The level of a call's operands on the first n nodes.
 fn check(nodes: &[u32], n: usize, k: u32, call: SetRead) -> outcomes::Check
-    ensures { λ r. ⌜ Checks set (now (nodes .entry)) n k (λ S v. set-read-declines k call S v) r ⌝ }
+    ensures { λ r. ⌜ Checks set (now (nodes .entry)) n k (λ S. set-read-declines k call S) r ⌝ }
 {
     match call {
         SetRead::Get(a) => outcomes::operands::parent(nodes, 2, n, k, a),

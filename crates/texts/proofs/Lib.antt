@@ -1,3 +1,5 @@
+pub mod Spellings
+pub mod XLaws
 pub mod Sound
 pub mod Complete
 pub mod Offsets

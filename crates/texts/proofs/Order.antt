@@ -5,41 +5,42 @@ use native.Mathlib.Omega.{arith}
 use mathlib.Core.List.{List}
 use lib.ListN.{length}
 use Rattle.nodes.specs.Policies.{Policy}
+use Rattle.texts.specs.Lexicon.{Lexicon}
 use Rattle.texts.specs.Machine.{Out, accept, bad, deep, reads}
 use Rattle.texts.specs.Posts.{read-of}
-use Rattle.texts.specs.Reading.{first, no-field?, offends?, rules, reading-of, reading}
+use Rattle.texts.specs.Reading.{first, offends?, rules, reading-of, reading}
 use Rattle.texts.specs.declared.Found.{Found}
 use Rattle.texts.specs.declared.Reading.{Reading}
 use Rattle.texts.specs.declared.syntax.Read.{Read}
 
-module _ (k : ℕ) (t : List ℕ) where
+module _ (X : Lexicon) (k : ℕ) (t : List ℕ) where
   -- 7
-  pub bad-reading : (i : ℕ) (x : Read) → x ≡ read-of (length t) (reads t) → x ≡ Read.Bad i → Reading.NotPolicy i ≡ reading k t
+  pub bad-reading : (i : ℕ) (x : Read) → x ≡ read-of (length t) (reads X t) → x ≡ Read.Bad i → Reading.NotPolicy i ≡ reading X k t
   unfolding reading reading-of read-of
-  bad-reading i x e f = by (reads t) (sym e ∙ f)
+  bad-reading i x e f = by (reads X t) (sym e ∙ f)
     where
-      by : (o : Out) → read-of (length t) o ≡ Read.Bad i → Reading.NotPolicy i ≡ reading-of k t o
+      by : (o : Out) → read-of (length t) o ≡ Read.Bad i → Reading.NotPolicy i ≡ reading-of X k t o
       by (accept p) h = absurd (let z : _≡_ {A = ℕ} 0 1 = cc in omega arith)
       by (bad j) h = cc
       by (deep j) h = absurd (let z : _≡_ {A = ℕ} 0 1 = cc in omega arith)
 
   -- 9
-  pub deep-reading : (i : ℕ) (x : Read) → x ≡ read-of (length t) (reads t) → x ≡ Read.Deep i → Reading.TooDeep i ≡ reading k t
+  pub deep-reading : (i : ℕ) (x : Read) → x ≡ read-of (length t) (reads X t) → x ≡ Read.Deep i → Reading.TooDeep i ≡ reading X k t
   unfolding reading reading-of read-of
-  deep-reading i x e f = by (reads t) (sym e ∙ f)
+  deep-reading i x e f = by (reads X t) (sym e ∙ f)
     where
-      by : (o : Out) → read-of (length t) o ≡ Read.Deep i → Reading.TooDeep i ≡ reading-of k t o
+      by : (o : Out) → read-of (length t) o ≡ Read.Deep i → Reading.TooDeep i ≡ reading-of X k t o
       by (accept p) h = absurd (let z : _≡_ {A = ℕ} 0 1 = cc in omega arith)
       by (bad j) h = absurd (let z : _≡_ {A = ℕ} 0 1 = cc in omega arith)
       by (deep j) h = cc
 
   -- the rules
-  pub whole-reading : (n : ℕ) (x : Read) (r : Reading) → x ≡ read-of (length t) (reads t) → x ≡ Read.End n
-      → r ≡ rules (first (no-field? k) 0 t) (first offends? 0 t) → r ≡ reading k t
+  pub whole-reading : (n : ℕ) (x : Read) (r : Reading) → x ≡ read-of (length t) (reads X t) → x ≡ Read.End n
+      → r ≡ rules (first (X .outside? k) 0 t) (first (offends? X) 0 t) → r ≡ reading X k t
   unfolding reading reading-of read-of
-  whole-reading n x r e f g = g ∙ by (reads t) (sym e ∙ f)
+  whole-reading n x r e f g = g ∙ by (reads X t) (sym e ∙ f)
     where
-      by : (o : Out) → read-of (length t) o ≡ Read.End n → rules (first (no-field? k) 0 t) (first offends? 0 t) ≡ reading-of k t o
+      by : (o : Out) → read-of (length t) o ≡ Read.End n → rules (first (X .outside? k) 0 t) (first (offends? X) 0 t) ≡ reading-of X k t o
       by (accept p) h = refl
       by (bad j) h = absurd (let z : _≡_ {A = ℕ} 0 1 = cc in omega arith)
       by (deep j) h = absurd (let z : _≡_ {A = ℕ} 0 1 = cc in omega arith)

@@ -9,8 +9,8 @@ use lib.ListN.{length, drop, getD}
 use lib.Seq.{drop-cons, drop-length}
 use lib.Dec.{eqb, leb}
 use borrow.Author.Tests.{eq-eqb, ne-eqb}
-use Rattle.texts.specs.Machine.{digit?}
-use Rattle.texts.specs.Reading.{first, number, no-field?, test?, open-after, clean-inside?, clean?, offends?}
+use Rattle.texts.specs.XForms.{digit?, number, no-field?, x-forms}
+use Rattle.texts.specs.Reading.{first, test?, open-after, clean-inside?, clean?, offends?}
 use Rattle.texts.specs.declared.Found.the-variants.{Nowhere, At}
 
 -- parentheses
@@ -144,30 +144,30 @@ module _ (t : List ℕ) where
   inside-later at n m h l k f e g = rw g (inside-next at n (omega arith) k ∙ simp (ne-eqb _ _ f, ne-eqb _ _ e))
 
   -- an operand
-  pub clean-none : (at : ℕ) → length t ≤ at → at ≤ length t → clean? (drop at t) ≡ true
+  pub clean-none : (at : ℕ) → length t ≤ at → at ≤ length t → clean? x-forms (drop at t) ≡ true
   unfolding clean?
-  clean-none at h k = ap clean? (none-left at (omega arith))
+  clean-none at h k = ap (clean? x-forms) (none-left at (omega arith))
 
-  pub clean-paren : (at : ℕ) → at < length t → getD t at 0 ≡ 40 → clean? (drop at t) ≡ clean-inside? (drop (at + 1) t) 1
+  pub clean-paren : (at : ℕ) → at < length t → getD t at 0 ≡ 40 → clean? x-forms (drop at t) ≡ clean-inside? (drop (at + 1) t) 1
   unfolding clean?
-  clean-paren at h e = ap clean? (left at h) ∙ simp (eq-eqb _ _ e)
+  clean-paren at h e = ap (clean? x-forms) (left at h) ∙ simp (eq-eqb _ _ e)
 
-  pub clean-name : (at : ℕ) → at < length t → (getD t at 0 ≡ 40 → ⊥) → getD t at 0 ≡ 120 → clean? (drop at t) ≡ test? (drop (at + 1) t)
+  pub clean-name : (at : ℕ) → at < length t → (getD t at 0 ≡ 40 → ⊥) → getD t at 0 ≡ 120 → clean? x-forms (drop at t) ≡ test? (drop (at + 1) t)
   unfolding clean?
-  clean-name at h f e = ap clean? (left at h) ∙ simp (ne-eqb _ _ f, eq-eqb _ _ e)
+  clean-name at h f e = ap (clean? x-forms) (left at h) ∙ simp (ne-eqb _ _ f, eq-eqb _ _ e)
 
-  pub clean-bang : (at : ℕ) → at < length t → getD t at 0 ≡ 33 → clean? (drop at t) ≡ clean? (drop (at + 1) t)
+  pub clean-bang : (at : ℕ) → at < length t → getD t at 0 ≡ 33 → clean? x-forms (drop at t) ≡ clean? x-forms (drop (at + 1) t)
   unfolding clean?
-  clean-bang at h e = ap clean? (left at h) ∙ rw e refl
+  clean-bang at h e = ap (clean? x-forms) (left at h) ∙ rw e refl
 
-  pub clean-digit : (at : ℕ) → at < length t → (getD t at 0 ≡ 40 → ⊥) → (getD t at 0 ≡ 120 → ⊥) → (getD t at 0 ≡ 33 → ⊥) → clean? (drop at t) ≡ true
+  pub clean-digit : (at : ℕ) → at < length t → (getD t at 0 ≡ 40 → ⊥) → (getD t at 0 ≡ 120 → ⊥) → (getD t at 0 ≡ 33 → ⊥) → clean? x-forms (drop at t) ≡ true
   unfolding clean?
-  clean-digit at h f e g = ap clean? (left at h) ∙ simp (ne-eqb _ _ f, ne-eqb _ _ e, ne-eqb _ _ g)
+  clean-digit at h f e g = ap (clean? x-forms) (left at h) ∙ simp (ne-eqb _ _ f, ne-eqb _ _ e, ne-eqb _ _ g)
 
-  pub offends-here : (at : ℕ) (r : Bool) → at < length t → getD t at 0 ≡ 33 → r ≡ clean? (drop (at + 1) t) → not r ≡ offends? (drop at t)
+  pub offends-here : (at : ℕ) (r : Bool) → at < length t → getD t at 0 ≡ 33 → r ≡ clean? x-forms (drop (at + 1) t) → not r ≡ offends? x-forms (drop at t)
   unfolding offends?
-  offends-here at r h e f = sym (ap offends? (left at h) ∙ simp (eq-eqb _ _ e, f))
+  offends-here at r h e f = sym (ap (offends? x-forms) (left at h) ∙ simp (eq-eqb _ _ e, f))
 
-  pub offends-not : (at : ℕ) → at < length t → (getD t at 0 ≡ 33 → ⊥) → false ≡ offends? (drop at t)
+  pub offends-not : (at : ℕ) → at < length t → (getD t at 0 ≡ 33 → ⊥) → false ≡ offends? x-forms (drop at t)
   unfolding offends?
-  offends-not at h e = sym (ap offends? (left at h) ∙ simp (ne-eqb _ _ e))
+  offends-not at h e = sym (ap (offends? x-forms) (left at h) ∙ simp (ne-eqb _ _ e))

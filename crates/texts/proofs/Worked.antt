@@ -5,8 +5,9 @@ use mathlib.Core.Bool.{true}
 use Prim.Native.Nat.{ℕ}
 use lib.ListN.{replicate}
 use Rattle.nodes.specs.Policies.{Policy}
+use Rattle.texts.specs.XForms.{x-begins?, x-whole?, number, no-field?, x-forms}
 use Rattle.texts.specs.Machine.{run, final, step, onward, mid-step, mid-go, after-name, close, join-seq, join-plus, negs, nesting, leaf, reads}
-use Rattle.texts.specs.Reading.{first, number, no-field?, test?, open-after, clean-inside?, clean?, offends?, rules, reading-of, reading}
+use Rattle.texts.specs.Reading.{first, test?, open-after, clean-inside?, clean?, offends?, rules, reading-of, reading}
 use Rattle.texts.specs.Answers.{tree-of, tree}
 use Rattle.texts.specs.declared.Reading.{Reading}
 
@@ -38,19 +39,20 @@ table =
     ∷ (1, replicate 32 40 ++ (48 ∷ 40 ∷ []), Reading.NotPolicy 33)
     ∷ []
 
-worked : map (λ c. reading (c .0) (c .1)) table ≡ map (λ c. c .2) table
-unfolding reading reading-of rules first number no-field? test? open-after clean-inside? clean? offends? reads run final step onward mid-step mid-go
+worked : map (λ c. reading x-forms (c .0) (c .1)) table ≡ map (λ c. c .2) table
+unfolding x-begins? x-whole? reading reading-of rules first number no-field? test? open-after clean-inside? clean? offends? reads run final step onward
+    mid-step mid-go
     after-name close join-seq join-plus negs nesting leaf
 worked = refl
 
 -- `!x0=1;(1+0*)**`: joins group from the left, and a star is of what stands before it
-grouped : tree (33 ∷ 120 ∷ 48 ∷ 61 ∷ 49 ∷ 59 ∷ 40 ∷ 49 ∷ 43 ∷ 48 ∷ 42 ∷ 41 ∷ 42 ∷ 42 ∷ [])
+grouped : tree x-forms (33 ∷ 120 ∷ 48 ∷ 61 ∷ 49 ∷ 59 ∷ 40 ∷ 49 ∷ 43 ∷ 48 ∷ 42 ∷ 41 ∷ 42 ∷ 42 ∷ [])
     ≡ Policy.seq (Policy.negates (Policy.tests 0 true)) (Policy.stars (Policy.stars (Policy.plus Policy.skip (Policy.stars Policy.fail))))
-unfolding tree tree-of reads run final step onward mid-step mid-go after-name close join-seq join-plus negs nesting leaf
+unfolding x-begins? x-whole? tree tree-of reads run final step onward mid-step mid-go after-name close join-seq join-plus negs nesting leaf
 grouped = refl
 
 -- `1+0+1;0;1`
-from-left : tree (49 ∷ 43 ∷ 48 ∷ 43 ∷ 49 ∷ 59 ∷ 48 ∷ 59 ∷ 49 ∷ [])
+from-left : tree x-forms (49 ∷ 43 ∷ 48 ∷ 43 ∷ 49 ∷ 59 ∷ 48 ∷ 59 ∷ 49 ∷ [])
     ≡ Policy.plus (Policy.plus Policy.skip Policy.fail) (Policy.seq (Policy.seq Policy.skip Policy.fail) Policy.skip)
-unfolding tree tree-of reads run final step onward mid-step mid-go after-name close join-seq join-plus negs nesting leaf
+unfolding x-begins? x-whole? tree tree-of reads run final step onward mid-step mid-go after-name close join-seq join-plus negs nesting leaf
 from-left = refl

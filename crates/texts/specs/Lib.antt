@@ -1,3 +1,5 @@
+pub mod Lexicon
+pub mod XForms
 pub mod Grammar
 pub mod Machine
 pub mod Posts

@@ -1,10 +1,11 @@
 -- The reader of policy texts, byte by byte: a state, what a byte does to it, and the run over a text, which stops at the first
 -- byte that cannot stand there (7) or the first `(` or `!` inside 32 others (9); 01, "What each operation declines, in order".
-use Prim.Native.Nat.{ℕ, zero, suc, _+_, _-_, _*_}
-use mathlib.Core.List.{List, [], _∷_}
-use mathlib.Core.Bool.{Bool, true, false, cond, _&&_}
-use lib.Dec.{ltb, leb, eqb}
+use Prim.Native.Nat.{ℕ, zero, suc, _+_}
+use mathlib.Core.List.{List, [], _∷_, _++_}
+use mathlib.Core.Bool.{Bool, true, false, cond}
+use lib.Dec.{ltb, eqb}
 use Rattle.nodes.specs.Policies.{Policy}
+use Rattle.texts.specs.Lexicon.{Whole, unspelt, field, Lexicon}
 
 -- the left operand of a join: none yet, or what was read so far
 pub data Acc : Type 0 where
@@ -15,11 +16,9 @@ pub data Acc : Type 0 where
 pub data Frame : Type 0 where
   paren : Acc → Acc → ℕ → Frame
 
--- inside a test or an assignment: after `x`; after a first digit that is no 0; after N; after `:`; after `=`, of an assignment or not
+-- inside a test or an assignment: after these bytes of a spelling; after `:`; after `=`, of an assignment or not
 pub data Mid : Type 0 where
-  name : Mid
-  digit : ℕ → Mid
-  named : ℕ → Mid
+  spelt : List ℕ → Mid
   colon : ℕ → Mid
   bit : Bool → ℕ → Mid
 
@@ -65,24 +64,20 @@ unfoldable pub nesting : List Frame → ℕ
 nesting [] = 0
 nesting (paren sa pa n ∷ σ) = suc (n + nesting σ)
 
-abbrev pub digit? : ℕ → Bool
-digit? b = leb 48 b && leb b 57
-
 -- an assignment or a test
 unfoldable pub leaf : Bool → ℕ → Bool → Policy
 leaf true n v = Policy.assigns n v
 leaf false n v = Policy.tests n v
 
--- after N: `=` or `:`
-unfoldable pub after-name : ℕ → ℕ → MidStep
-after-name n b = cond (eqb b 61) (more (bit false n)) (cond (eqb b 58) (more (colon n)) not-mid)
+-- after a spelling: `=` or `:`
+unfoldable pub after-name : Whole → ℕ → MidStep
+after-name unspelt b = not-mid
+after-name (field n) b = cond (eqb b 61) (more (bit false n)) (cond (eqb b 58) (more (colon n)) not-mid)
 
-unfoldable pub mid-step : Mid → ℕ → MidStep
-mid-step name b = cond (eqb b 48) (more (named 0)) (cond (digit? b) (more (digit (b - 48))) not-mid)
-mid-step (digit n) b = cond (digit? b) (more (named (n * 10 + (b - 48)))) (after-name n b)
-mid-step (named n) b = after-name n b
-mid-step (colon n) b = cond (eqb b 61) (more (bit true n)) not-mid
-mid-step (bit k n) b = cond (eqb b 48) (whole (leaf k n false)) (cond (eqb b 49) (whole (leaf k n true)) not-mid)
+unfoldable pub mid-step : Lexicon → Mid → ℕ → MidStep
+mid-step X (spelt s) b = cond (X .begins? (s ++ (b ∷ []))) (more (spelt (s ++ (b ∷ [])))) (after-name (X .whole? s) b)
+mid-step X (colon n) b = cond (eqb b 61) (more (bit true n)) not-mid
+mid-step X (bit k n) b = cond (eqb b 48) (whole (leaf k n false)) (cond (eqb b 49) (whole (leaf k n true)) not-mid)
 
 unfoldable pub mid-go : MidStep → Acc → Acc → ℕ → List Frame → Step
 mid-go (more m) sa pa n σ = go (inside m sa pa n σ)
@@ -95,16 +90,16 @@ close v sa pa [] = stop
 close v sa pa (paren sb pb n ∷ σ) = go (post (negs n (join-plus sa (join-seq pa v))) sb pb σ)
 
 -- what a byte does, where an atom may nest L deep
-unfoldable pub step : ℕ → State → ℕ → Step
-step L (need sa pa n σ) b =
+unfoldable pub step : Lexicon → ℕ → State → ℕ → Step
+step X L (need sa pa n σ) b =
     cond (eqb b 48) (go (post (negs n Policy.fail) sa pa σ))
     (cond (eqb b 49) (go (post (negs n Policy.skip) sa pa σ))
-    (cond (eqb b 120) (go (inside name sa pa n σ))
     (cond (eqb b 33) (cond (ltb (n + nesting σ) L) (go (need sa pa (suc n) σ)) over)
     (cond (eqb b 40) (cond (ltb (n + nesting σ) L) (go (need nothing nothing 0 (paren sa pa n ∷ σ))) over)
+    (cond (X .begins? (b ∷ [])) (go (inside (spelt (b ∷ [])) sa pa n σ))
     stop))))
-step L (inside m sa pa n σ) b = mid-go (mid-step m b) sa pa n σ
-step L (post v sa pa σ) b =
+step X L (inside m sa pa n σ) b = mid-go (mid-step X m b) sa pa n σ
+step X L (post v sa pa σ) b =
     cond (eqb b 42) (go (post (Policy.stars v) sa pa σ))
     (cond (eqb b 59) (go (need sa (sofar (join-seq pa v)) 0 σ))
     (cond (eqb b 43) (go (need (sofar (join-plus sa (join-seq pa v))) nothing 0 σ))
@@ -124,12 +119,12 @@ onward stop k at = bad at
 onward over k at = deep at
 
 -- the run from an offset over the text that is left
-unfoldable pub run : ℕ → State → ℕ → List ℕ → Out
-run L q at [] = final q at
-run L q at (b ∷ s) = onward (step L q b) (λ r. run L r (at + 1) s) at
+unfoldable pub run : Lexicon → ℕ → State → ℕ → List ℕ → Out
+run X L q at [] = final q at
+run X L q at (b ∷ s) = onward (step X L q b) (λ r. run X L r (at + 1) s) at
 
 abbrev pub start : State
 start = need nothing nothing 0 []
 
-unfoldable pub reads : List ℕ → Out
-reads s = run 32 start 0 s
+unfoldable pub reads : Lexicon → List ℕ → Out
+reads X s = run X 32 start 0 s

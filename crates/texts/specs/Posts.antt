@@ -1,28 +1,34 @@
 -- What the functions of `syntax` promise: each moves the run on over the part of the text that it read, whatever stands around it.
 use mathlib.Core.Path.{_≡_}
 use Prim.Native.Nat.{ℕ, _+_, _≤_, _<_}
-use mathlib.Core.List.{List}
+use mathlib.Core.List.{List, [], _∷_, _++_}
 use mathlib.Core.Bool.{Bool, false, _||_}
 use lib.ListN.{length, drop, getD}
 use lib.Dec.{eqb}
 use Rattle.nodes.specs.Policies.{Policy}
-use Rattle.texts.specs.Machine.{Acc, Frame, State, need, post, Out, accept, bad, deep, nesting, run}
+use Rattle.texts.specs.Lexicon.{field, Lexicon}
+use Rattle.texts.specs.Machine.{Acc, Frame, State, need, inside, spelt, post, Out, accept, bad, deep, nesting, run}
 use Rattle.texts.specs.declared.syntax.Read.{Read}
 use Rattle.texts.specs.declared.syntax.Read.the-variants.{End, Bad, Deep}
 
 -- the run over what is left of the text from an offset on
-unfoldable pub run-at : List ℕ → State → ℕ → Out
-run-at t q at = run 32 q at (drop at t)
+unfoldable pub run-at : Lexicon → List ℕ → State → ℕ → Out
+run-at X t q at = run X 32 q at (drop at t)
 
 abbrev pub Open : Type 0
 Open = Acc → Acc → ℕ → List Frame → State
 
 -- from the open state q at `at`, nested d deep, the text reads an atom up to e, or it is refused
-unfoldable pub AtomPost : List ℕ → ℕ → Open → ℕ → Read → Type 0
-AtomPost t d q at (End e) = (at ≤ e) × (e ≤ length t)
-    × ((sa pa : Acc) (n : ℕ) (σ : List Frame) → n + nesting σ ≡ d → (v : Policy) × (run-at t (q sa pa n σ) at ≡ run-at t (post v sa pa σ) e))
-AtomPost t d q at (Bad i) = (sa pa : Acc) (n : ℕ) (σ : List Frame) → n + nesting σ ≡ d → run-at t (q sa pa n σ) at ≡ bad i
-AtomPost t d q at (Deep i) = (sa pa : Acc) (n : ℕ) (σ : List Frame) → n + nesting σ ≡ d → run-at t (q sa pa n σ) at ≡ deep i
+unfoldable pub AtomPost : Lexicon → List ℕ → ℕ → Open → ℕ → Read → Type 0
+AtomPost X t d q at (End e) = (at ≤ e) × (e ≤ length t)
+    × ((sa pa : Acc) (n : ℕ) (σ : List Frame) → n + nesting σ ≡ d → (v : Policy) × (run-at X t (q sa pa n σ) at ≡ run-at X t (post v sa pa σ) e))
+AtomPost X t d q at (Bad i) = (sa pa : Acc) (n : ℕ) (σ : List Frame) → n + nesting σ ≡ d → run-at X t (q sa pa n σ) at ≡ bad i
+AtomPost X t d q at (Deep i) = (sa pa : Acc) (n : ℕ) (σ : List Frame) → n + nesting σ ≡ d → run-at X t (q sa pa n σ) at ≡ deep i
+
+-- after a spelling, which no byte goes on with
+unfoldable pub RelationPost : Lexicon → List ℕ → ℕ → Read → Type 0
+RelationPost X t at r = (s : List ℕ) (n d : ℕ) → X .whole? s ≡ field n → (at < length t → X .begins? (s ++ (getD t at 0 ∷ [])) ≡ false)
+    → AtomPost X t d (inside (spelt s)) at r
 
 -- the bytes that a starred item, a product and a sum go on with
 abbrev pub after-starred : ℕ → Bool
@@ -35,16 +41,16 @@ abbrev pub after-sum : ℕ → Bool
 after-sum b = (eqb b 42 || eqb b 59) || eqb b 43
 
 -- from the start of an operand at `at`, nested d deep, the text reads up to e, where no byte follows that `goes` on, or it is refused
-unfoldable pub JoinPost : (ℕ → Bool) → List ℕ → ℕ → ℕ → Read → Type 0
-JoinPost goes t d at (End e) = (at ≤ e) × (e ≤ length t) × (e < length t → goes (getD t e 0) ≡ false)
-    × ((sa pa : Acc) (σ : List Frame) → nesting σ ≡ d → (sb pb : Acc) × (v : Policy) × (run-at t (need sa pa 0 σ) at ≡ run-at t (post v sb pb σ) e))
-JoinPost goes t d at (Bad i) = (sa pa : Acc) (σ : List Frame) → nesting σ ≡ d → run-at t (need sa pa 0 σ) at ≡ bad i
-JoinPost goes t d at (Deep i) = (sa pa : Acc) (σ : List Frame) → nesting σ ≡ d → run-at t (need sa pa 0 σ) at ≡ deep i
+unfoldable pub JoinPost : Lexicon → (ℕ → Bool) → List ℕ → ℕ → ℕ → Read → Type 0
+JoinPost X goes t d at (End e) = (at ≤ e) × (e ≤ length t) × (e < length t → goes (getD t e 0) ≡ false)
+    × ((sa pa : Acc) (σ : List Frame) → nesting σ ≡ d → (sb pb : Acc) × (v : Policy) × (run-at X t (need sa pa 0 σ) at ≡ run-at X t (post v sb pb σ) e))
+JoinPost X goes t d at (Bad i) = (sa pa : Acc) (σ : List Frame) → nesting σ ≡ d → run-at X t (need sa pa 0 σ) at ≡ bad i
+JoinPost X goes t d at (Deep i) = (sa pa : Acc) (σ : List Frame) → nesting σ ≡ d → run-at X t (need sa pa 0 σ) at ≡ deep i
 
 -- the stars after an item
-unfoldable pub StarsPost : List ℕ → ℕ → ℕ → Type 0
-StarsPost t at e = (at ≤ e) × (e ≤ length t) × (e < length t → after-starred (getD t e 0) ≡ false)
-    × ((v : Policy) (sa pa : Acc) (σ : List Frame) → (u : Policy) × (run-at t (post v sa pa σ) at ≡ run-at t (post u sa pa σ) e))
+unfoldable pub StarsPost : Lexicon → List ℕ → ℕ → ℕ → Type 0
+StarsPost X t at e = (at ≤ e) × (e ≤ length t) × (e < length t → after-starred (getD t e 0) ≡ false)
+    × ((v : Policy) (sa pa : Acc) (σ : List Frame) → (u : Policy) × (run-at X t (post v sa pa σ) at ≡ run-at X t (post u sa pa σ) e))
 
 -- the answer for a whole text of n bytes
 unfoldable pub read-of : ℕ → Out → Read

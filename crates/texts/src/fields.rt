@@ -2,7 +2,8 @@
 ghost use mathlib.Core.Path.{_≡_};
 ghost use Prim.Native.Nat.{ℕ, _-_, _≤_, _<_};
 ghost use lib.ListN.{length, drop};
-ghost use Rattle.texts.specs.Reading.{first, number, no-field?};
+ghost use Rattle.texts.specs.XForms.{number, no-field?};
+ghost use Rattle.texts.specs.Reading.{first};
 
 // The value of a digit.
 fn value(b: u8) -> u32

@@ -1,8 +1,8 @@
 // Policy texts: the reader of 01's grammar and of the rules that need no store.
 ghost use mathlib.Core.Path.{_≡_};
 ghost use Prim.Native.Nat.{ℕ};
-ghost use Rattle.texts.specs.Machine.{digit?};
-ghost use Rattle.texts.specs.Reading.{first, no-field?, offends?, rules, reading};
+ghost use Rattle.texts.specs.XForms.{digit?, no-field?, x-forms};
+ghost use Rattle.texts.specs.Reading.{first, offends?, rules, reading};
 
 mod fields;
 mod negations;
@@ -32,7 +32,7 @@ pub fn is_digit(b: u8) -> bool
 
 // The rules on a text that follows the grammar.
 fn keeps_rules(text: &[u8], k: u32) -> Reading
-    ensures { λ r. ⌜ r ≡ rules (first (no-field? k) 0 (now (text .entry))) (first offends? 0 (now (text .entry))) ⌝ }
+    ensures { λ r. ⌜ r ≡ rules (first (no-field? k) 0 (now (text .entry))) (first (offends? x-forms) 0 (now (text .entry))) ⌝ }
 {
     let field = fields::first_without(text, k);
     if let Found::At(i) = field {
@@ -47,7 +47,7 @@ fn keeps_rules(text: &[u8], k: u32) -> Reading
 
 // A text of any bytes, read for k fields.
 pub fn read(text: &[u8], k: u32) -> Reading
-    ensures { λ r. ⌜ r ≡ reading k (now (text .entry)) ⌝ }
+    ensures { λ r. ⌜ r ≡ reading x-forms k (now (text .entry)) ⌝ }
 {
     let whole = syntax::check(text);
     match whole {

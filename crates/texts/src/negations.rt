@@ -2,6 +2,7 @@
 ghost use mathlib.Core.Path.{_≡_};
 ghost use Prim.Native.Nat.{ℕ, _+_, _≤_, _<_};
 ghost use lib.ListN.{length, drop};
+ghost use Rattle.texts.specs.XForms.{x-forms};
 ghost use Rattle.texts.specs.Reading.{first, test?, open-after, clean-inside?, clean?, offends?};
 
 // After `x`: a test, and no assignment?
@@ -67,7 +68,7 @@ fn clean_inside(text: &[u8], at: usize) -> bool
 // Neither `:` nor `*` in the atom at an offset?
 fn clean(text: &[u8], at: usize) -> bool
     requires { ⌜ at ≤ length (now text) ⌝ }
-    ensures { λ r. ⌜ r ≡ clean? (drop at (now (text .entry))) ⌝ }
+    ensures { λ r. ⌜ r ≡ clean? x-forms (drop at (now (text .entry))) ⌝ }
 {
     let mut i = at;
     while i < text.len() {
@@ -89,7 +90,7 @@ fn clean(text: &[u8], at: usize) -> bool
 // A `!` before an operand with `:` or `*`?
 fn offends(text: &[u8], at: usize) -> bool
     requires { ⌜ at < length (now text) ⌝ }
-    ensures { λ r. ⌜ r ≡ offends? (drop at (now (text .entry))) ⌝ }
+    ensures { λ r. ⌜ r ≡ offends? x-forms (drop at (now (text .entry))) ⌝ }
 {
     if text[at] == b'!' {
         return !clean(text, at + 1);
@@ -99,7 +100,7 @@ fn offends(text: &[u8], at: usize) -> bool
 
 // The first offending `!`.
 pub(crate) fn first_offending(text: &[u8]) -> crate::Found
-    ensures { λ r. ⌜ r ≡ first offends? 0 (now (text .entry)) ⌝ }
+    ensures { λ r. ⌜ r ≡ first (offends? x-forms) 0 (now (text .entry)) ⌝ }
 {
     let mut i: usize = 0;
     while i < text.len() {

@@ -2,9 +2,11 @@
 ghost use mathlib.Core.Path.{_≡_};
 ghost use mathlib.Core.Bool.{Bool};
 ghost use Prim.Native.Nat.{ℕ, _+_, _≤_};
+ghost use mathlib.Core.List.{[], _∷_};
 ghost use lib.ListN.{length};
-ghost use Rattle.texts.specs.Machine.{inside, need, name, named, bit, reads};
-ghost use Rattle.texts.specs.Posts.{AtomPost, JoinPost, StarsPost, after-starred, after-product, after-sum, read-of};
+ghost use Rattle.texts.specs.XForms.{x-forms};
+ghost use Rattle.texts.specs.Machine.{inside, need, spelt, bit, reads};
+ghost use Rattle.texts.specs.Posts.{AtomPost, RelationPost, JoinPost, StarsPost, after-starred, after-product, after-sum, read-of};
 
 // What reading finds: the offset where it ended, or that of a byte that cannot stand there (7), or of a `(` or `!` inside 32 others (9).
 pub(crate) enum Read {
@@ -16,7 +18,7 @@ pub(crate) enum Read {
 // b, after `=`.
 fn read_bit(text: &[u8], at: usize) -> Read
     requires { ⌜ at ≤ length (now text) ⌝ }
-    ensures { λ r. ⌜ ((k : Bool) (n d : ℕ) → AtomPost (now (text .entry)) d (inside (bit k n)) at r) ⌝ }
+    ensures { λ r. ⌜ ((k : Bool) (n d : ℕ) → AtomPost x-forms (now (text .entry)) d (inside (bit k n)) at r) ⌝ }
 {
     if at == text.len() {
         return Read::Bad(at);
@@ -34,7 +36,7 @@ fn read_bit(text: &[u8], at: usize) -> Read
 // After N.
 fn read_relation(text: &[u8], at: usize) -> Read
     requires { ⌜ at ≤ length (now text) ⌝ }
-    ensures { λ r. ⌜ ((n d : ℕ) → AtomPost (now (text .entry)) d (inside (named n)) at r) ⌝ }
+    ensures { λ r. ⌜ RelationPost x-forms (now (text .entry)) at r ⌝ }
 {
     if at == text.len() {
         return Read::Bad(at);
@@ -59,7 +61,7 @@ fn read_relation(text: &[u8], at: usize) -> Read
 // After `x`.
 fn read_field(text: &[u8], at: usize) -> Read
     requires { ⌜ at ≤ length (now text) ⌝ }
-    ensures { λ r. ⌜ ((d : ℕ) → AtomPost (now (text .entry)) d (inside name) at r) ⌝ }
+    ensures { λ r. ⌜ ((d : ℕ) → AtomPost x-forms (now (text .entry)) d (inside (spelt (120 ∷ []))) at r) ⌝ }
 {
     if at == text.len() {
         return Read::Bad(at);
@@ -84,7 +86,7 @@ fn read_field(text: &[u8], at: usize) -> Read
 // The `*` after an item.
 fn stars(text: &[u8], at: usize) -> usize
     requires { ⌜ at ≤ length (now text) ⌝ }
-    ensures { λ r. ⌜ StarsPost (now (text .entry)) at r ⌝ }
+    ensures { λ r. ⌜ StarsPost x-forms (now (text .entry)) at r ⌝ }
 {
     let mut i = at;
     while i < text.len() {
@@ -98,7 +100,7 @@ fn stars(text: &[u8], at: usize) -> usize
 
 fn atom(text: &[u8], at: usize, depth: u32) -> Read
     requires { ⌜ at ≤ length (now text) ⌝ }
-    ensures { λ r. ⌜ AtomPost (now (text .entry)) depth need at r ⌝ }
+    ensures { λ r. ⌜ AtomPost x-forms (now (text .entry)) depth need at r ⌝ }
 {
     if at == text.len() {
         return Read::Bad(at);
@@ -140,7 +142,7 @@ fn atom(text: &[u8], at: usize, depth: u32) -> Read
 
 fn starred(text: &[u8], at: usize, depth: u32) -> Read
     requires { ⌜ at ≤ length (now text) ⌝ }
-    ensures { λ r. ⌜ JoinPost after-starred (now (text .entry)) depth at r ⌝ }
+    ensures { λ r. ⌜ JoinPost x-forms after-starred (now (text .entry)) depth at r ⌝ }
 {
     let first = atom(text, at, depth);
     let Read::End(e) = first else {
@@ -151,7 +153,7 @@ fn starred(text: &[u8], at: usize, depth: u32) -> Read
 
 fn product(text: &[u8], at: usize, depth: u32) -> Read
     requires { ⌜ at ≤ length (now text) ⌝ }
-    ensures { λ r. ⌜ JoinPost after-product (now (text .entry)) depth at r ⌝ }
+    ensures { λ r. ⌜ JoinPost x-forms after-product (now (text .entry)) depth at r ⌝ }
 {
     let mut from = at;
     loop {
@@ -171,7 +173,7 @@ fn product(text: &[u8], at: usize, depth: u32) -> Read
 
 fn sum(text: &[u8], at: usize, depth: u32) -> Read
     requires { ⌜ at ≤ length (now text) ⌝ }
-    ensures { λ r. ⌜ JoinPost after-sum (now (text .entry)) depth at r ⌝ }
+    ensures { λ r. ⌜ JoinPost x-forms after-sum (now (text .entry)) depth at r ⌝ }
 {
     let mut from = at;
     loop {
@@ -191,7 +193,7 @@ fn sum(text: &[u8], at: usize, depth: u32) -> Read
 
 // The whole text: its end, or the refusal.
 pub(crate) fn check(text: &[u8]) -> Read
-    ensures { λ r. ⌜ r ≡ read-of (length (now (text .entry))) (reads (now (text .entry))) ⌝ }
+    ensures { λ r. ⌜ r ≡ read-of (length (now (text .entry))) (reads x-forms (now (text .entry))) ⌝ }
 {
     let all = sum(text, 0, 0);
     let Read::End(e) = all else {

@@ -7,6 +7,7 @@ use borrow.Author.Needs.{needs}
 use borrow.Fn.Kinds.{In}
 use borrow.Fn.PlainCycle.{Measures, is, falls, and}
 use Rattle.nodes.specs.Policies.{plus, seq}
+use Rattle.texts.specs.XForms.{x-forms}
 use Rattle.texts.specs.Grammar.{Starred, Product, Sum}
 use Rattle.building.specs.Building.{built, after-product, after-sum}
 use Rattle.building.proofs.Atoms.{negation-builds, paren-builds}
@@ -99,21 +100,22 @@ abbrev sum-calls : ℕ → sum-lts.Claims
 sum-calls t = (product-below t, product.Post, byte-reads.Asked, byte-reads.Learnt, union-reads.Asked, union-reads.Learnt)
 
 abbrev product-Inv : product-lts.InvT-loop
-product-Inv text at nodes₀ work₀ k made₀ end₀ nodes work made end = Carried Product after-product 59 (joined seq Starred) k text at nodes₀ work₀
+product-Inv text at nodes₀ work₀ k made₀ end₀ nodes work made end = Carried (Product x-forms) after-product 59
+    (joined seq (Starred x-forms)) k text at nodes₀ work₀
     (built made₀ end₀) nodes work (built made end)
 
 abbrev product-μ : product-lts.MeasureT-loop
 product-μ text at nodes₀ work₀ k made₀ end₀ nodes work made end = length text - end
 
 abbrev starred-Inv : starred-lts.InvT-loop
-starred-Inv text at nodes₀ work₀ k made₀ end₀ nodes work made end = StarCarried k text at nodes₀ work₀ (built made₀ end₀) nodes work
+starred-Inv text at nodes₀ work₀ k made₀ end₀ nodes work made end = StarCarried x-forms k text at nodes₀ work₀ (built made₀ end₀) nodes work
     (built made end)
 
 abbrev starred-μ : starred-lts.MeasureT-loop
 starred-μ text at nodes₀ work₀ k made₀ end₀ nodes work made end = length text - end
 
 abbrev sum-Inv : sum-lts.InvT-loop
-sum-Inv text at nodes₀ work₀ k made₀ end₀ nodes work made end = Carried Sum after-sum 43 (joined plus Product) k text at nodes₀ work₀
+sum-Inv text at nodes₀ work₀ k made₀ end₀ nodes work made end = Carried (Sum x-forms) after-sum 43 (joined plus (Product x-forms)) k text at nodes₀ work₀
     (built made₀ end₀) nodes work (built made end)
 
 abbrev sum-μ : sum-lts.MeasureT-loop

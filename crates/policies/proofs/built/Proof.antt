@@ -51,7 +51,8 @@ returns c =
     let a = c20 .args in
     let y = c20 .pre in
     built-ran (a .text .now) (memories (a .relations .now) (a .sets .now)) (a .work .now) (y .0) _ (c13 .wide .ensures)
-    (y .1) (y .2) _ (c10 .narrow .ensures) _ _ _ (c9 .build .ensures) _ _ (fitted (c3 .commit .ensures) (c .if1 .taken))
+    (y .1) (y .2) _ (c10 .narrow .ensures) _ _ _ (c9 .build .ensures) _ _
+    (c3 .commit .ensures) (fitted (c .if1 .taken))
 
 returns-2 : tie.Need-returns-2
 returns-2 c =
@@ -63,7 +64,8 @@ returns-2 c =
     let a = c20 .args in
     let y = c20 .pre in
     built-ran (a .text .now) (memories (a .relations .now) (a .sets .now)) (a .work .now) (y .0) _ (c13 .wide .ensures)
-    (y .1) (y .2) _ (c10 .narrow .ensures) _ _ _ (c9 .build .ensures) _ _ (full (c3 .commit .ensures) (c .if1 .left))
+    (y .1) (y .2) _ (c10 .narrow .ensures) _ _ _ (c9 .build .ensures) _ _
+    (c3 .commit .ensures) (full (c .if1 .left))
 
 pub built-spec : {M : Type 1} → statement M
 built-spec =

@@ -7,8 +7,7 @@ use borrow.Author.Tests.{le-leb, lt-leb}
 use Rattle.nodes.specs.Store.{rel}
 use Rattle.judging.specs.Memory.{memories}
 use Rattle.policies.specs.Outcome.{of-reading}
-use Rattle.policies.proofs.BuiltTexts.{long-verdict, read-refused}
-use Rattle.policies.proofs.TextOutcomes.{policy-refused}
+use Rattle.policies.proofs.BuiltTexts.{long-verdict, policy-refused, read-refused}
 use Rattle.policies.proofs.judged.Statement.{statement}
 use Rattle.policies.proofs.judged.Tie as tie
 
@@ -16,7 +15,7 @@ returns : tie.Need-returns
 returns c =
     let c5 = c .before .before .before .before .before in
     let a = c5 .args in
-    policy-refused (a .text .now) (memories (a .relations .now) (a .sets .now)) (c5 .pre .store) _ (long-verdict _ _ (lt-leb _ _ (c .if1 .taken)))
+    policy-refused (a .text .now) (memories (a .relations .now) (a .sets .now)) (c5 .pre .store) _ (long-verdict _ _ _ (lt-leb _ _ (c .if1 .taken)))
 
 slice-read-read : tie.Need-slice-read-read
 slice-read-read c =

@@ -4,7 +4,7 @@ use lib.ListN.{replicate}
 use borrow.Author.Needs.{needs}
 use borrow.Author.Tests.{not-true, not-false}
 use Rattle.outcomes.proofs.Running.{judged-ready}
-use Rattle.policies.proofs.TextOutcomes.{policy-not-store}
+use Rattle.policies.proofs.BuiltTexts.{policy-not-store}
 use Rattle.policies.proofs.policy.Statement.{statement}
 use Rattle.policies.proofs.policy.Tie as tie
 

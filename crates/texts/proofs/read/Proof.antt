@@ -20,15 +20,15 @@ keeps-rules-requires : tie.Need-keeps-rules-requires
 keeps-rules-requires c κs = search needs
 
 returns : tie.Need-returns
-returns c = bad-reading _ _ _ _ (c .before .before .before .check .ensures) (c .before .whole .given .1)
+returns c = bad-reading _ _ _ _ _ (c .before .before .before .check .ensures) (c .before .whole .given .1)
 
 returns-2 : tie.Need-returns-2
-returns-2 c = deep-reading _ _ _ _ (c .before .before .before .check .ensures) (c .before .whole2 .given .1)
+returns-2 c = deep-reading _ _ _ _ _ (c .before .before .before .check .ensures) (c .before .whole2 .given .1)
 
 returns-3 : tie.Need-returns-3
 returns-3 c =
     let c3 = c .before .before .before in
-    whole-reading _ _ _ _ _ (c3 .check .ensures) (c .before .enum-told .given .1) (c .keeps-rules .ensures)
+    whole-reading _ _ _ _ _ _ (c3 .check .ensures) (c .before .enum-told .given .1) (c .keeps-rules .ensures)
 
 pub read-spec : {M : Type 1} → statement M
 read-spec =

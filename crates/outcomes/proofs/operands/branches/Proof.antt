@@ -4,7 +4,7 @@ use lib.Dec.{ltb}
 use borrow.Author.Needs.{needs}
 use borrow.Author.Tests.{lt-ltb, le-ltb}
 use Rattle.outcomes.specs.Checking.{Low}
-use Rattle.outcomes.proofs.Handles.{provided-yes, provided-no, then-no, then-yes, still-no}
+use Rattle.outcomes.proofs.Handles.{provided-yes, provided-no, also-no, also-yes, still-no}
 use Rattle.outcomes.proofs.operands.branches.Statement.{statement}
 use Rattle.outcomes.proofs.operands.branches.Tie as tie
 
@@ -13,29 +13,29 @@ branches-spec =
     tie.close
     (tie.spec
     (λ c K e. record {
-      says = λ B f F v. provided-no _ _ _ (le-ltb _ _ (c .if1 .taken));
+      says = λ B f F. provided-no _ _ _ (le-ltb _ _ (c .if1 .taken));
       low = tt;
     })
     (λ c κs. search needs)
     (λ c. search needs)
     (λ c K e. record {
-      says = λ B f F v.
+      says = λ B f F.
           let c4 = c .before .before .before .before in
           provided-yes _ _ _ (lt-ltb _ _ (c4 .before .if1 .left))
-          ∙ then-no _ (λ l. ltb _ l) v (c4 .two .ensures K e .says B f F _) _ (c .before .before .check .given .1) (le-ltb _ _ (c .if2 .taken));
+          ∙ also-no _ (λ l. ltb _ l) (c4 .two .ensures K e .says B f F) _ (c .before .before .check .given .1) (le-ltb _ _ (c .if2 .taken));
       low = tt;
     })
     (λ c. search needs)
     (λ c K e. record {
-      says = λ B f F v.
+      says = λ B f F.
           let c4 = c .before .before .before .before in
           provided-yes _ _ _ (lt-ltb _ _ (c4 .before .if1 .left))
-          ∙ then-yes _ (λ l. ltb _ l) v (c4 .two .ensures K e .says B f F _) _ (c .before .before .check .given .1) (lt-ltb _ _ (c .if2 .left));
+          ∙ also-yes _ (λ l. ltb _ l) (c4 .two .ensures K e .says B f F) _ (c .before .before .check .given .1) (lt-ltb _ _ (c .if2 .left));
       low = subst (Low _) (c .before .before .check .given .1) (c .before .before .before .before .two .ensures K e .low);
     })
     (λ c K e. record {
-      says = λ B f F v.
+      says = λ B f F.
           provided-yes _ _ _ (lt-ltb _ _ (c .before .before .before .if1 .left))
-          ∙ still-no _ _ v (c .enum-told .given .1) (c .before .before .two .ensures K e .says B f F _);
+          ∙ still-no _ _ (c .before .before .two .ensures K e .says B f F) _ (c .enum-told .given .1);
       low = c .before .before .two .ensures K e .low;
     }))

@@ -4,7 +4,7 @@ use lib.Dec.{ltb}
 use borrow.Author.Needs.{needs}
 use borrow.Author.Tests.{lt-ltb, le-ltb}
 use Rattle.outcomes.specs.Checking.{Low}
-use Rattle.outcomes.proofs.Handles.{then-no, then-yes, still-no}
+use Rattle.outcomes.proofs.Handles.{also-no, also-yes, still-no}
 use Rattle.outcomes.proofs.operands.children.Statement.{statement}
 use Rattle.outcomes.proofs.operands.children.Tie as tie
 
@@ -15,19 +15,19 @@ children-spec =
     (λ c κs. search needs)
     (λ c. search needs)
     (λ c K e. record {
-      says = λ B f F v.
-          then-no _ (λ l. ltb l _) v (c .before .before .before .before .two .ensures K e .says B f F _) _ (c .before .before .check .given .1)
+      says = λ B f F.
+          also-no _ (λ l. ltb l _) (c .before .before .before .before .two .ensures K e .says B f F) _ (c .before .before .check .given .1)
           (le-ltb _ _ (c .if1 .taken));
       low = tt;
     })
     (λ c. search needs)
     (λ c K e. record {
-      says = λ B f F v.
-          then-yes _ (λ l. ltb l _) v (c .before .before .before .before .two .ensures K e .says B f F _) _ (c .before .before .check .given .1)
+      says = λ B f F.
+          also-yes _ (λ l. ltb l _) (c .before .before .before .before .two .ensures K e .says B f F) _ (c .before .before .check .given .1)
           (lt-ltb _ _ (c .if1 .left));
       low = subst (Low _) (c .before .before .check .given .1) (c .before .before .before .before .two .ensures K e .low);
     })
     (λ c K e. record {
-      says = λ B f F v. still-no _ _ v (c .enum-told .given .1) (c .before .before .two .ensures K e .says B f F _);
+      says = λ B f F. still-no _ _ (c .before .before .two .ensures K e .says B f F) _ (c .enum-told .given .1);
       low = c .before .before .two .ensures K e .low;
     }))

@@ -10,6 +10,6 @@ pub field-spec : {M : Type 1} → statement M
 field-spec =
     tie.close
     (tie.spec
-    (λ c. (λ v. provided-no _ _ _ (le-ltb _ _ (c .if1 .taken)), tt))
-    (λ c. (λ v. provided-yes _ _ _ (lt-ltb _ _ (c .before .if1 .left)) ∙ provided-no _ _ _ (le-ltb _ _ (c .if2 .taken)), tt))
-    (λ c. (λ v. provided-yes _ _ _ (lt-ltb _ _ (c .before .if1 .left)) ∙ provided-yes _ _ _ (lt-ltb _ _ (c .if2 .left)), omega arith)))
+    (λ c. (provided-no _ _ _ (le-ltb _ _ (c .if1 .taken)), tt))
+    (λ c. (provided-yes _ _ _ (lt-ltb _ _ (c .before .if1 .left)) ∙ provided-no _ _ _ (le-ltb _ _ (c .if2 .taken)), tt))
+    (λ c. (provided-yes _ _ _ (lt-ltb _ _ (c .before .if1 .left)) ∙ provided-yes _ _ _ (lt-ltb _ _ (c .if2 .left)), omega arith)))

@@ -13,13 +13,13 @@ one-spec =
     (tie.spec
     (λ c κs. search needs)
     (λ c K e. record {
-      says = λ B f F v. one-none K F _ _ (c .before .is-held .ensures K _ e (plain-length K B _ _) ∙ not-true _ (c .if1 .taken));
+      says = λ B f F. one-none K F _ (c .before .is-held .ensures K _ e (plain-length K B _ _) ∙ not-true _ (c .if1 .taken));
       low = tt;
     })
     (λ c κs. search needs)
     (λ c K e. record {
-      says = λ B f F v.
+      says = λ B f F.
           let t = c .before .before .is-held .ensures K _ e (plain-length K B _ _) ∙ not-false _ (c .before .if1 .left) in
-          one-is K F _ _ _ t (level-told K B _ _ (c .level .ensures .0) e f F t);
+          one-is K F _ _ t (level-told K B _ _ (c .level .ensures .0) e f F t);
       low = c .level .ensures .1;
     }))

@@ -1,5 +1,5 @@
 -- `packets` goes on with the operand's level where both packets are numbers below 2 to the power of it.
-use mathlib.Core.Path.{_≡_, refl, subst, _∙_}
+use mathlib.Core.Path.{_≡_, refl, subst}
 use mathlib.Core.Bool.{true, false}
 use Prim.Native.Nat.{ℕ, _^_, _<_, _≤_}
 use native.Mathlib.Omega.{arith}
@@ -7,12 +7,12 @@ use lib.Dec.{ltb}
 use borrow.Author.Needs.{needs}
 use borrow.Author.Tests.{lt-ltb, le-ltb}
 use Rattle.nodes.specs.Store.{rel}
-use Rattle.outcomes.specs.Checking.{checked, Low}
-use Rattle.outcomes.specs.Outcome.{Verdict, declines, provided}
+use Rattle.outcomes.specs.Checking.{Low}
+use Rattle.outcomes.specs.Outcome.{also}
 use Rattle.outcomes.specs.declared.Check.{Check}
-use Rattle.outcomes.specs.declared.Check.the-variants.{Level}
+use Rattle.outcomes.specs.declared.Check.the-variants.{Level, No}
 use Rattle.outcomes.specs.declared.Refusal.the-variants.{OutOfRange}
-use Rattle.outcomes.proofs.Handles.{then-no, then-yes, still-no, provided-yes, provided-no}
+use Rattle.outcomes.proofs.Handles.{also-no, also-yes, still-no}
 use Rattle.outcomes.proofs.operands.packets.Statement.{statement}
 use Rattle.outcomes.proofs.operands.packets.Tie as tie
 
@@ -30,21 +30,22 @@ level-low c =
     let h = subst (Low _) (c .check .given .1) (c .before .before .one .ensures rel refl .low) in omega (arith, c4 .pre)
 
 -- the first packet is out of range, the second is, or none
-module _ {X : Verdict} {r : Check} (l n x y w p : ℕ) (v : ℕ → Verdict)
-    (C : X ≡ checked r (λ l. provided OutOfRange (ltb x (2 ^ l)) (provided OutOfRange (ltb y (2 ^ l)) (v l))))
-    (e : r ≡ Level l) (en : n ≡ l) (ew : w ≡ x) (ep : p ≡ 2 ^ n) where
-  first-out : p ≤ w → X ≡ declines OutOfRange
-  first-out h = then-no _ (λ l. ltb x (2 ^ l)) (λ l. provided OutOfRange (ltb y (2 ^ l)) (v l)) C l e (too-big x w p l n ew ep en h)
+module _ {X r : Check} (l n x y w p : ℕ) (C : X ≡ r) (e : r ≡ Level l) (en : n ≡ l) (ew : w ≡ x) (ep : p ≡ 2 ^ n) where
+  abbrev both : Check
+  both = also (also X OutOfRange (λ l. ltb x (2 ^ l))) OutOfRange (λ l. ltb y (2 ^ l))
+
+  first-out : p ≤ w → both ≡ No OutOfRange
+  first-out h = still-no _ _ (also-no _ (λ l. ltb x (2 ^ l)) C l e (too-big x w p l n ew ep en h)) _ refl
 
   module _ (u : ℕ) (h : w < p) (eu : u ≡ y) where
-    first-in : X ≡ provided OutOfRange (ltb y (2 ^ l)) (v l)
-    first-in = then-yes _ (λ l. ltb x (2 ^ l)) (λ l. provided OutOfRange (ltb y (2 ^ l)) (v l)) C l e (in-range x w p l n ew ep en h)
+    first-in : also X OutOfRange (λ l. ltb x (2 ^ l)) ≡ Level l
+    first-in = also-yes _ (λ l. ltb x (2 ^ l)) C l e (in-range x w p l n ew ep en h)
 
-    second-out : p ≤ u → X ≡ declines OutOfRange
-    second-out g = first-in ∙ provided-no _ _ _ (too-big y u p l n eu ep en g)
+    second-out : p ≤ u → both ≡ No OutOfRange
+    second-out g = also-no _ (λ l. ltb y (2 ^ l)) first-in l refl (too-big y u p l n eu ep en g)
 
-    both-in : u < p → X ≡ v l
-    both-in g = first-in ∙ provided-yes _ _ _ (in-range y u p l n eu ep en g)
+    both-in : u < p → both ≡ Level l
+    both-in g = also-yes _ (λ l. ltb y (2 ^ l)) first-in l refl (in-range y u p l n eu ep en g)
 
 returns : tie.Need-returns
 returns c =
@@ -52,8 +53,8 @@ returns c =
     let c5 = c3 .before .before in
     let c7 = c5 .before .before in
     record {
-      says = λ B f F v.
-          first-out _ _ _ _ _ _ v (c7 .one .ensures rel refl .says B f F _) (c5 .check .given .1) (c3 .narrow .ensures) (c .before .wide .ensures)
+      says = λ B f F.
+          first-out _ _ _ _ _ _ (c7 .one .ensures rel refl .says B f F) (c5 .check .given .1) (c3 .narrow .ensures) (c .before .wide .ensures)
           (c .before .before .power .ensures) (c .if1 .taken);
       low = tt;
     }
@@ -65,8 +66,8 @@ returns-2 c =
     let c7 = c5 .before .before in
     let c9 = c7 .before .before in
     record {
-      says = λ B f F v.
-          second-out _ _ _ _ _ _ v (c9 .one .ensures rel refl .says B f F _) (c7 .check .given .1) (c5 .narrow .ensures) (c3 .wide .ensures)
+      says = λ B f F.
+          second-out _ _ _ _ _ _ (c9 .one .ensures rel refl .says B f F) (c7 .check .given .1) (c5 .narrow .ensures) (c3 .wide .ensures)
           (c3 .before .power .ensures) _ (c .before .before .if1 .left) (c .before .wide2 .ensures) (c .if2 .taken);
       low = tt;
     }
@@ -78,18 +79,18 @@ returns-3 c =
     let c7 = c5 .before .before in
     let c9 = c7 .before .before in
     record {
-      says = λ B f F v.
-          both-in _ _ _ _ _ _ v (c9 .one .ensures rel refl .says B f F _) (c7 .check .given .1) (c5 .narrow .ensures) (c3 .wide .ensures)
+      says = λ B f F.
+          both-in _ _ _ _ _ _ (c9 .one .ensures rel refl .says B f F) (c7 .check .given .1) (c5 .narrow .ensures) (c3 .wide .ensures)
           (c3 .before .power .ensures) _ (c .before .before .if1 .left) (c .before .wide2 .ensures) (c .if2 .left);
       low = subst (Low _) (c7 .check .given .1) (c9 .one .ensures rel refl .low);
     }
 
 returns-4 : tie.Need-returns-4
 returns-4 c =
+    let e = c .enum-told .given .1 in
     record {
-      says = λ B f F v. still-no _ _ v (c .enum-told .given .1) (c .before .before .one .ensures rel refl .says B f F _);
-      low =
-          c .before .before .one .ensures rel refl .low;
+      says = λ B f F. still-no _ _ (still-no _ _ (c .before .before .one .ensures rel refl .says B f F) _ e) _ e;
+      low = c .before .before .one .ensures rel refl .low;
     }
 
 pub packets-spec : {M : Type 1} → statement M

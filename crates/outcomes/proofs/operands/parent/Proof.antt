@@ -5,7 +5,7 @@ use lib.Dec.{ltb}
 use borrow.Author.Needs.{needs}
 use borrow.Author.Tests.{lt-ltb, le-ltb}
 use Rattle.outcomes.specs.Checking.{Low}
-use Rattle.outcomes.proofs.Handles.{then-no, then-yes, still-no}
+use Rattle.outcomes.proofs.Handles.{also-no, also-yes, still-no}
 use Rattle.outcomes.proofs.operands.parent.Statement.{statement}
 use Rattle.outcomes.proofs.operands.parent.Tie as tie
 
@@ -16,21 +16,21 @@ parent-spec =
     (λ c κs. search needs)
     (λ c. search needs)
     (λ c K e. record {
-      says = λ B f F v.
+      says = λ B f F.
           let l = c .before .before .check .given .0 .0 in
-          then-no _ (ltb 0) v (c .before .before .before .before .one .ensures K e .says B f F _) l (c .before .before .check .given .1)
+          also-no _ (ltb 0) (c .before .before .before .before .one .ensures K e .says B f F) l (c .before .before .check .given .1)
           (le-ltb 0 l (omega (arith, c .if1 .taken)));
       low = tt;
     })
     (λ c. search needs)
     (λ c K e. record {
-      says = λ B f F v.
+      says = λ B f F.
           let l = c .before .before .check .given .0 .0 in
-          then-yes _ (ltb 0) v (c .before .before .before .before .one .ensures K e .says B f F _) l (c .before .before .check .given .1)
+          also-yes _ (ltb 0) (c .before .before .before .before .one .ensures K e .says B f F) l (c .before .before .check .given .1)
           (lt-ltb 0 l (omega (arith, c .if1 .left)));
       low = subst (Low _) (c .before .before .check .given .1) (c .before .before .before .before .one .ensures K e .low);
     })
     (λ c K e. record {
-      says = λ B f F v. still-no _ _ v (c .enum-told .given .1) (c .before .before .one .ensures K e .says B f F _);
+      says = λ B f F. still-no _ _ (c .before .before .one .ensures K e .says B f F) _ (c .enum-told .given .1);
       low = c .before .before .one .ensures K e .low;
     }))

@@ -11,9 +11,9 @@ use Rattle.store.specs.declared.filter_calls.FilterCall.{FilterCall}
 use Rattle.store.proofs.filter_calls.check.Statement.{statement}
 use Rattle.store.proofs.filter_calls.check.Tie as tie
 
-of-call : {m : List ℕ} {n k : ℕ} {r : Check} {a b : FilterCall} → a ≡ b → Checks set m n k (λ S v. filter-declines k b S v) r
-    → Checks set m n k (λ S v. filter-declines k a S v) r
-of-call {m} {n} {k} {r} e C = subst (λ c. Checks set m n k (λ S v. filter-declines k c S v) r) (sym e) C
+of-call : {m : List ℕ} {n k : ℕ} {r : Check} {a b : FilterCall} → a ≡ b → Checks set m n k (λ S. filter-declines k b S) r
+    → Checks set m n k (λ S. filter-declines k a S) r
+of-call {m} {n} {k} {r} e C = subst (λ c. Checks set m n k (λ S. filter-declines k c S) r) (sym e) C
 
 pub check-spec : {M : Type 1} → statement M
 check-spec =

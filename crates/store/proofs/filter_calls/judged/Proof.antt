@@ -4,8 +4,9 @@ use native.Mathlib.Omega.{arith}
 use borrow.Author.Needs.{needs}
 use Rattle.nodes.specs.Store.{set, rel}
 use Rattle.judging.specs.Memory.{memories}
-use Rattle.store.proofs.CallSteps.{adding-declined, adding-low, adding-within, adding-ran}
+use Rattle.outcomes.proofs.CallSteps.{adding-declined, adding-low, adding-within, adding-ran}
 use Rattle.store.proofs.ImageSteps.{filter-adding}
+use Rattle.outcomes.proofs.Outcomes.{finished-commits, finished-ends}
 use Rattle.outcomes.proofs.Running.{checked-here, beside-here}
 use Rattle.store.proofs.filter_calls.judged.Statement.{statement}
 use Rattle.store.proofs.filter_calls.judged.Tie as tie
@@ -94,7 +95,7 @@ returns-2 c =
     adding-ran rel (memories (c26 .args .relations .now) (c26 .args .sets .now)) (c26 .args .work .now) (c26 .pre) _ (c20 .wide .ensures)
     (filter-adding (c26 .args .call)) _ (checked-here set (c26 .pre .store) (c18 .wide2 .ensures) (c16 .check .ensures)) _ (c14 .check3 .given .1)
     (beside-here _ (c26 .pre .store) rel _ (c18 .wide2 .ensures)) _ _ _ _ _ refl (c9 .narrow .ensures) (c8 .perform .ensures _) _ _
-    (c .before .before .finish .ensures)
+    (finished-commits (c .before .before .finish .ensures)) (finished-ends _ _ _ (c .before .before .finish .ensures))
 
 pub judged-spec : {M : Type 1} → statement M
 judged-spec =

@@ -12,9 +12,9 @@ use Rattle.outcomes.proofs.TwoKinds.{checks-relations}
 use Rattle.store.proofs.image_calls.check.Statement.{statement}
 use Rattle.store.proofs.image_calls.check.Tie as tie
 
-of-call : {o t : List ℕ} {n j k : ℕ} {r : Check} {a b : ImageCall} → a ≡ b → ChecksBoth o n t j k (λ S v. image-declines k b S v) r
-    → ChecksBoth o n t j k (λ S v. image-declines k a S v) r
-of-call {o} {t} {n} {j} {k} {r} e C = subst (λ c. ChecksBoth o n t j k (λ S v. image-declines k c S v) r) (sym e) C
+of-call : {o t : List ℕ} {n j k : ℕ} {r : Check} {a b : ImageCall} → a ≡ b → ChecksBoth o n t j k (λ S. image-declines k b S) r
+    → ChecksBoth o n t j k (λ S. image-declines k a S) r
+of-call {o} {t} {n} {j} {k} {r} e C = subst (λ c. ChecksBoth o n t j k (λ S. image-declines k c S) r) (sym e) C
 
 pub check-spec : {M : Type 1} → statement M
 check-spec =

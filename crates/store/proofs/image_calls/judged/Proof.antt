@@ -4,8 +4,9 @@ use native.Mathlib.Omega.{arith}
 use borrow.Author.Needs.{needs}
 use Rattle.nodes.specs.Store.{set, rel}
 use Rattle.judging.specs.Memory.{memories}
-use Rattle.store.proofs.CallSteps.{adding-declined, adding-low, adding-within, adding-ran}
+use Rattle.outcomes.proofs.CallSteps.{adding-declined, adding-low, adding-within, adding-ran}
 use Rattle.store.proofs.ImageSteps.{image-adding}
+use Rattle.outcomes.proofs.Outcomes.{finished-commits, finished-ends}
 use Rattle.outcomes.proofs.Running.{both-here, beside-here}
 use Rattle.store.proofs.image_calls.judged.Statement.{statement}
 use Rattle.store.proofs.image_calls.judged.Tie as tie
@@ -112,7 +113,7 @@ returns-2 c =
     (image-adding (c28 .args .call)) _ (both-here _ (c28 .pre .store) (c22 .wide .ensures) (c20 .wide2 .ensures) (c16 .check .ensures)) _
     (c14 .check3 .given .1)
     (beside-here _ (c28 .pre .store) set _ (c22 .wide .ensures)) _ _ _ _ _ refl (c9 .narrow .ensures) (c8 .perform .ensures _) _ _
-    (c .before .before .finish .ensures)
+    (finished-commits (c .before .before .finish .ensures)) (finished-ends _ _ _ (c .before .before .finish .ensures))
 
 pub judged-spec : {M : Type 1} → statement M
 judged-spec =

@@ -11,7 +11,7 @@ use Rattle.store.specs.ImageCalls.{path-answer}
 use Rattle.store.specs.ImageChecking.{PathSafe}
 use Rattle.outcomes.specs.declared.Answer.{Answer}
 use Rattle.store.specs.declared.path_reads.PathRead.{PathRead}
-use Rattle.store.proofs.Reading.{reads-truth}
+use Rattle.outcomes.proofs.Reading.{reads-truth}
 use Rattle.store.proofs.path_reads.answer.Statement.{statement}
 use Rattle.store.proofs.path_reads.answer.Tie as tie
 

@@ -10,9 +10,9 @@ use Rattle.store.specs.declared.path_reads.PathRead.{PathRead}
 use Rattle.store.proofs.path_reads.check.Statement.{statement}
 use Rattle.store.proofs.path_reads.check.Tie as tie
 
-of-call : {o t : List ℕ} {n j k : ℕ} {r : Check} {a b : PathRead} → a ≡ b → ChecksBoth o n t j k (λ S v. path-declines k b S v) r
-    → ChecksBoth o n t j k (λ S v. path-declines k a S v) r
-of-call {o} {t} {n} {j} {k} {r} e C = subst (λ c. ChecksBoth o n t j k (λ S v. path-declines k c S v) r) (sym e) C
+of-call : {o t : List ℕ} {n j k : ℕ} {r : Check} {a b : PathRead} → a ≡ b → ChecksBoth o n t j k (λ S. path-declines k b S) r
+    → ChecksBoth o n t j k (λ S. path-declines k a S) r
+of-call {o} {t} {n} {j} {k} {r} e C = subst (λ c. ChecksBoth o n t j k (λ S. path-declines k c S) r) (sym e) C
 
 pub check-spec : {M : Type 1} → statement M
 check-spec =

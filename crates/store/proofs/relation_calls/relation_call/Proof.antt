@@ -3,7 +3,7 @@ use mathlib.Core.Path.{ap, _∙_}
 use lib.ListN.{replicate}
 use borrow.Author.Needs.{needs}
 use borrow.Author.Tests.{not-true, not-false}
-use Rattle.store.proofs.CallSteps.{adding-no-store}
+use Rattle.outcomes.proofs.CallSteps.{adding-no-store}
 use Rattle.outcomes.proofs.Running.{judged-ready}
 use Rattle.store.proofs.RelationSteps.{relation-adding}
 use Rattle.store.proofs.relation_calls.relation_call.Statement.{statement}

@@ -12,7 +12,7 @@ use Rattle.store.specs.RelationChecking.{RelationReadSafe}
 use Rattle.outcomes.specs.declared.Answer.{Answer}
 use Rattle.outcomes.specs.declared.Answer.the-variants.{Truth, RelationNode}
 use Rattle.store.specs.declared.relation_reads.RelationRead.{RelationRead}
-use Rattle.store.proofs.Reading.{reads-truth, reads-node}
+use Rattle.outcomes.proofs.Reading.{reads-truth, reads-node}
 use Rattle.store.proofs.relation_reads.answer.Statement.{statement}
 use Rattle.store.proofs.relation_reads.answer.Tie as tie
 

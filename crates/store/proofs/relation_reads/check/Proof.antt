@@ -11,9 +11,9 @@ use Rattle.store.specs.declared.relation_reads.RelationRead.{RelationRea
 use Rattle.store.proofs.relation_reads.check.Statement.{statement}
 use Rattle.store.proofs.relation_reads.check.Tie as tie
 
-of-call : {m : List ℕ} {n k : ℕ} {r : Check} {a b : RelationRead} → a ≡ b → Checks rel m n k (λ S v. relation-read-declines k b S v) r
-    → Checks rel m n k (λ S v. relation-read-declines k a S v) r
-of-call {m} {n} {k} {r} e C = subst (λ c. Checks rel m n k (λ S v. relation-read-declines k c S v) r) (sym e) C
+of-call : {m : List ℕ} {n k : ℕ} {r : Check} {a b : RelationRead} → a ≡ b → Checks rel m n k (λ S. relation-read-declines k b S) r
+    → Checks rel m n k (λ S. relation-read-declines k a S) r
+of-call {m} {n} {k} {r} e C = subst (λ c. Checks rel m n k (λ S. relation-read-declines k c S) r) (sym e) C
 
 pub check-spec : {M : Type 1} → statement M
 check-spec =

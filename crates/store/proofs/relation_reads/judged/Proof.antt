@@ -3,7 +3,7 @@ use native.Mathlib.Omega.{arith}
 use borrow.Author.Needs.{needs}
 use Rattle.nodes.specs.Store.{rel}
 use Rattle.judging.specs.Memory.{memories}
-use Rattle.store.proofs.CallSteps.{reading-declined, reading-low, reading-told}
+use Rattle.outcomes.proofs.CallSteps.{reading-declined, reading-low, reading-told}
 use Rattle.outcomes.proofs.Running.{checked-here}
 use Rattle.store.proofs.RelationSteps.{relation-reading}
 use Rattle.store.proofs.relation_reads.judged.Statement.{statement}

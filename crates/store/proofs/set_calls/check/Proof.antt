@@ -12,9 +12,9 @@ use Rattle.store.specs.declared.set_calls.SetCall.{SetCall}
 use Rattle.store.proofs.set_calls.check.Statement.{statement}
 use Rattle.store.proofs.set_calls.check.Tie as tie
 
-of-call : {m : List ℕ} {n k : ℕ} {r : Check} {a b : SetCall} → a ≡ b → Checks set m n k (λ S v. set-declines k b S v) r
-    → Checks set m n k (λ S v. set-declines k a S v) r
-of-call {m} {n} {k} {r} e C = subst (λ c. Checks set m n k (λ S v. set-declines k c S v) r) (sym e) C
+of-call : {m : List ℕ} {n k : ℕ} {r : Check} {a b : SetCall} → a ≡ b → Checks set m n k (λ S. set-declines k b S) r
+    → Checks set m n k (λ S. set-declines k a S) r
+of-call {m} {n} {k} {r} e C = subst (λ c. Checks set m n k (λ S. set-declines k c S) r) (sym e) C
 
 pub check-spec : {M : Type 1} → statement M
 check-spec =
@@ -37,8 +37,8 @@ check-spec =
     (λ c. search needs)
     (λ c κs. search needs)
     (λ c. of-call (c .before .before .call .given .1) (c .children .ensures set refl))
-    (λ c. of-call (c .enum-told .given .1) (record { says = λ B f F v. refl; low = omega arith }))
-    (λ c. of-call (c .enum-told2 .given .1) (record { says = λ B f F v. refl; low = omega arith }))
+    (λ c. of-call (c .enum-told .given .1) (record { says = λ B f F. refl; low = omega arith }))
+    (λ c. of-call (c .enum-told2 .given .1) (record { says = λ B f F. refl; low = omega arith }))
     (λ c. of-call (c .before .before .call2 .given .1) (c .two .ensures set refl))
     (λ c. of-call (c .before .before .call3 .given .1) (c .two2 .ensures set refl))
     (λ c. of-call (c .before .before .call4 .given .1) (c .two3 .ensures set refl))

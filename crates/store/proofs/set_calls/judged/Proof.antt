@@ -3,7 +3,8 @@ use native.Mathlib.Omega.{arith}
 use borrow.Author.Needs.{needs}
 use Rattle.nodes.specs.Store.{set, rel}
 use Rattle.judging.specs.Memory.{memories}
-use Rattle.store.proofs.CallSteps.{adding-declined, adding-goes, adding-low, adding-within, adding-ran}
+use Rattle.outcomes.proofs.CallSteps.{adding-declined, adding-goes, adding-low, adding-within, adding-ran}
+use Rattle.outcomes.proofs.Outcomes.{finished-commits, finished-ends}
 use Rattle.outcomes.proofs.Running.{checked-here}
 use Rattle.store.proofs.SetSteps.{set-adding}
 use Rattle.store.proofs.SetMeant.{set-field-small}
@@ -89,7 +90,8 @@ returns-2 c =
     let a = c25 .args in
     adding-ran set (memories (a .relations .now) (a .sets .now)) (a .work .now) (c25 .pre) _ (c19 .wide .ensures)
     (set-adding (a .call)) _ (checked-here set (c25 .pre .store) (c19 .wide .ensures) (c16 .check .ensures)) _ (c14 .check3 .given .1) tt _ _ _ _ _
-    (c10 .narrow .ensures) (c9 .narrow2 .ensures) (c8 .perform .ensures) _ _ (c .before .before .finish .ensures)
+    (c10 .narrow .ensures) (c9 .narrow2 .ensures) (c8 .perform .ensures) _ _
+    (finished-commits (c .before .before .finish .ensures)) (finished-ends _ _ _ (c .before .before .finish .ensures))
 
 pub judged-spec : {M : Type 1} → statement M
 judged-spec =

@@ -12,7 +12,7 @@ use Rattle.store.specs.SetChecking.{SetReadSafe}
 use Rattle.outcomes.specs.declared.Answer.{Answer}
 use Rattle.outcomes.specs.declared.Answer.the-variants.{Handle, SetNode}
 use Rattle.store.specs.declared.set_reads.SetRead.{SetRead}
-use Rattle.store.proofs.Reading.{reads-truth, reads-node, reads-number}
+use Rattle.outcomes.proofs.Reading.{reads-truth, reads-node, reads-number}
 use Rattle.store.proofs.set_reads.answer.Statement.{statement}
 use Rattle.store.proofs.set_reads.answer.Tie as tie
 

@@ -3,7 +3,7 @@ use native.Mathlib.Omega.{arith}
 use borrow.Author.Needs.{needs}
 use Rattle.nodes.specs.Store.{set, rel}
 use Rattle.judging.specs.Memory.{memories}
-use Rattle.store.proofs.CallSteps.{reading-declined, reading-low, reading-told}
+use Rattle.outcomes.proofs.CallSteps.{reading-declined, reading-low, reading-told}
 use Rattle.outcomes.proofs.Running.{checked-here}
 use Rattle.store.proofs.SetSteps.{set-reading}
 use Rattle.store.proofs.set_reads.judged.Statement.{statement}

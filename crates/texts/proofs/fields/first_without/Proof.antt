@@ -3,7 +3,8 @@ use native.Mathlib.Omega.{arith}
 use mathlib.Core.Path.{_≡_, sym, _∙_}
 use Prim.Native.Nat.{_-_, _≤_}
 use lib.ListN.{length, drop}
-use Rattle.texts.specs.Reading.{first, no-field?}
+use Rattle.texts.specs.XForms.{no-field?}
+use Rattle.texts.specs.Reading.{first}
 use Rattle.texts.proofs.Passes.{first-start, first-here, first-later, first-none}
 use Rattle.texts.proofs.fields.first_without.Statement.{statement}
 use Rattle.texts.proofs.fields.first_without.Tie as tie

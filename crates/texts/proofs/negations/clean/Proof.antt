@@ -3,13 +3,14 @@ use native.Mathlib.Omega.{arith}
 use mathlib.Core.Path.{_≡_, refl, sym, _∙_}
 use Prim.Native.Nat.{_-_, _≤_}
 use lib.ListN.{length, drop}
+use Rattle.texts.specs.XForms.{x-forms}
 use Rattle.texts.specs.Reading.{clean?}
 use Rattle.texts.proofs.Passes.{clean-none, clean-paren, clean-name, clean-bang, clean-digit}
 use Rattle.texts.proofs.negations.clean.Statement.{statement}
 use Rattle.texts.proofs.negations.clean.Tie as tie
 
 abbrev Inv-loop : tie.InvT-loop
-Inv-loop text at i₀ i = (at ≤ i) × (i ≤ length text) × (clean? (drop at text) ≡ clean? (drop i text))
+Inv-loop text at i₀ i = (at ≤ i) × (i ≤ length text) × (clean? x-forms (drop at text) ≡ clean? x-forms (drop i text))
 
 abbrev μ-loop : tie.MeasureT-loop
 μ-loop text at i₀ i = length text - i

@@ -3,13 +3,14 @@ use native.Mathlib.Omega.{arith}
 use mathlib.Core.Path.{_≡_, sym, _∙_}
 use Prim.Native.Nat.{_-_, _≤_}
 use lib.ListN.{length, drop}
+use Rattle.texts.specs.XForms.{x-forms}
 use Rattle.texts.specs.Reading.{first, offends?}
 use Rattle.texts.proofs.Passes.{first-start, first-here, first-later, first-none}
 use Rattle.texts.proofs.negations.first_offending.Statement.{statement}
 use Rattle.texts.proofs.negations.first_offending.Tie as tie
 
 abbrev Inv-loop : tie.InvT-loop
-Inv-loop text i₀ i = (i ≤ length text) × (first offends? 0 text ≡ first offends? i (drop i text))
+Inv-loop text i₀ i = (i ≤ length text) × (first (offends? x-forms) 0 text ≡ first (offends? x-forms) i (drop i text))
 
 abbrev μ-loop : tie.MeasureT-loop
 μ-loop text i₀ i = length text - i

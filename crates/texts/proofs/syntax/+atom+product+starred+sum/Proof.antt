@@ -3,11 +3,13 @@
 use borrow.Author.Needs.{needs}
 use borrow.Author.Tests.{eq-eqb, ne-eqb}
 use native.Mathlib.Omega.{arith}
-use mathlib.Core.Path.{refl}
+use mathlib.Core.Path.{refl, ap}
 use mathlib.Core.Logic.{inl, inr}
 use lib.ListN.{length}
 use Rattle.nodes.specs.Policies.{Policy}
-use Rattle.texts.specs.Machine.{inside, name, final, step, negs}
+use mathlib.Core.List.{[], _∷_}
+use Rattle.texts.specs.XForms.{x-begins?, x-forms}
+use Rattle.texts.specs.Machine.{inside, spelt, need, final, step, negs}
 use Rattle.texts.proofs.Moves.{atom-end, atom-whole, atom-go, atom-stop, atom-bang, atom-over, paren-refused, paren-closed, paren-ends, paren-stops}
 use Rattle.texts.proofs.Moves.{step-semi, step-plus, join-stars, join-atom-refused, join-refused, join-stop, or-falses, join-told, atom-told, join-lt}
 use Rattle.texts.proofs.Moves.{join-from, atom-in, Joined, joined-none, joined-from, joined-in, joined-more, joined-last}
@@ -85,58 +87,57 @@ sum-calls t = (product-below t, product.Post)
 
 atom-returns : (t : ℕ) → atom-lts.Need-returns (atom-calls t) (atom-at t) atom.Post
 unfolding final
-atom-returns t c = atom-end _ _ _ _ (c .if1 .taken) (λ sa pa m σ. refl)
+atom-returns t c = atom-end _ _ _ _ _ (c .if1 .taken) (λ sa pa m σ. refl)
 
 atom-returns-2 : (t : ℕ) → atom-lts.Need-returns-2 (atom-calls t) (atom-at t) atom.Post
 unfolding step
-atom-returns-2 t c = atom-whole _ _ _ _ (λ m. negs m Policy.fail) (omega arith) (λ sa pa m σ. simp (eq-eqb _ _ (c .if2 .taken)))
+atom-returns-2 t c = atom-whole _ _ _ _ _ (λ m. negs m Policy.fail) (omega arith) (λ sa pa m σ. simp (eq-eqb _ _ (c .if2 .taken)))
 
 atom-returns-3 : (t : ℕ) → atom-lts.Need-returns-3 (atom-calls t) (atom-at t) atom.Post
 unfolding step
-atom-returns-3 t c = atom-whole _ _ _ _ (λ m. negs m Policy.skip) (omega arith) (λ sa pa m σ. simp (
+atom-returns-3 t c = atom-whole _ _ _ _ _ (λ m. negs m Policy.skip) (omega arith) (λ sa pa m σ. simp (
   eq-eqb _ _ (c .if3 .taken),
   ne-eqb _ _
       (c .before .if2 .left),
 ))
 
 atom-returns-4 : (t : ℕ) → atom-lts.Need-returns-4 (atom-calls t) (atom-at t) atom.Post
-unfolding step
+unfolding step x-begins?
 atom-returns-4 t c =
-    let c3 = c .before .before .before in
-    atom-go _ _ _ (inside name) _ _ (omega arith)
-    (λ sa pa m σ. simp (eq-eqb _ _ (c .before .if4 .taken), ne-eqb _ _ (c3 .if2 .left), ne-eqb _ _ (c .before .before .if3 .left)))
+    atom-go _ _ _ _ (inside (spelt (120 ∷ []))) _ _ (omega arith)
+    (λ sa pa m σ. ap (λ (b : ℕ). step x-forms 32 (need sa pa m σ) b) (c .before .if4 .taken))
     (c .read-field .ensures _)
 
 atom-returns-5 : (t : ℕ) → atom-lts.Need-returns-5 (atom-calls t) (atom-at t) atom.Post
-atom-returns-5 t c = atom-bang _ _ _ _ (omega arith) (c .before .before .if5 .taken) (c .before .if6 .taken) (c .atom .ensures)
+atom-returns-5 t c = atom-bang _ _ _ _ _ (omega arith) (c .before .before .if5 .taken) (c .before .if6 .taken) (c .atom .ensures)
 
 atom-returns-6 : (t : ℕ) → atom-lts.Need-returns-6 (atom-calls t) (atom-at t) atom.Post
-atom-returns-6 t c = atom-over _ _ _ (omega arith) (inl (c .before .if5 .taken)) (c .if6 .left)
+atom-returns-6 t c = atom-over _ _ _ _ (omega arith) (inl (c .before .if5 .taken)) (c .if6 .left)
 
 atom-returns-7 : (t : ℕ) → atom-lts.Need-returns-7 (atom-calls t) (atom-at t) atom.Post
 atom-returns-7 t c =
     let c3 = c .before .before .before in
-    paren-refused _ _ _ (omega arith) (c3 .if7 .taken) (c .before .before .if8 .taken) _ (c .match .keys2) (c .before .sum .ensures)
+    paren-refused _ _ _ _ (omega arith) (c3 .if7 .taken) (c .before .before .if8 .taken) _ (c .match .keys2) (c .before .sum .ensures)
 
 atom-returns-8 : (t : ℕ) → atom-lts.Need-returns-8 (atom-calls t) (atom-at t) atom.Post
 atom-returns-8 t c =
     let c4 = c .before .before .before .before in
     let c5 = c4 .before in
     let c6 = c5 .before in
-    paren-ends _ _ _ (omega arith) (c6 .if7 .taken) (c5 .if8 .taken) _ (join-told _ _ _ _ _ _ (c .before .before .inner .given .1) (c4 .sum .ensures))
+    paren-ends _ _ _ _ (omega arith) (c6 .if7 .taken) (c5 .if8 .taken) _ (join-told _ _ _ _ _ _ _ (c .before .before .inner .given .1) (c4 .sum .ensures))
     (c .if9 .taken)
 
 atom-shared-slice-read-if10 : (t : ℕ) → atom-lts.Need-shared-slice-read-if10 (atom-calls t) (atom-at t) atom.Post
 atom-shared-slice-read-if10 t c =
     let c3 = c .before .before .before in
     let c5 = c3 .before .before in
-    join-lt _ _ _ _ _ (join-told _ _ _ _ _ _ (c3 .inner .given .1) (c5 .sum .ensures)) (c .before .if9 .left)
+    join-lt _ _ _ _ _ _ (join-told _ _ _ _ _ _ _ (c3 .inner .given .1) (c5 .sum .ensures)) (c .before .if9 .left)
 
 atom-add-t23 : (t : ℕ) → atom-lts.Need-add-t23 (atom-calls t) (atom-at t) atom.Post
 atom-add-t23 t c =
     let c4 = c .before .before .before .before in
     let c6 = c4 .before .before in
-    let h = (join-lt _ _ _ _ _ (join-told _ _ _ _ _ _ (c4 .inner .given .1) (c6 .sum .ensures)) (c .before .before .if9 .left)) in omega arith
+    let h = (join-lt _ _ _ _ _ _ (join-told _ _ _ _ _ _ _ (c4 .inner .given .1) (c6 .sum .ensures)) (c .before .before .if9 .left)) in omega arith
 
 atom-returns-9 : (t : ℕ) → atom-lts.Need-returns-9 (atom-calls t) (atom-at t) atom.Post
 atom-returns-9 t c =
@@ -144,8 +145,8 @@ atom-returns-9 t c =
     let c6 = c4 .before .before in
     let c7 = c6 .before in
     let c8 = c7 .before in
-    paren-closed _ _ _ (omega arith) (c8 .if7 .taken) (c7 .if8 .taken) _ (join-told _ _ _ _ _ _ (c4 .inner .given .1) (c6 .sum .ensures))
-    (join-lt _ _ _ _ _ (join-told _ _ _ _ _ _ (c4 .inner .given .1) (c6 .sum .ensures)) (c .before .before .if9 .left)) (c .if10 .taken)
+    paren-closed _ _ _ _ (omega arith) (c8 .if7 .taken) (c7 .if8 .taken) _ (join-told _ _ _ _ _ _ _ (c4 .inner .given .1) (c6 .sum .ensures))
+    (join-lt _ _ _ _ _ _ (join-told _ _ _ _ _ _ _ (c4 .inner .given .1) (c6 .sum .ensures)) (c .before .before .if9 .left)) (c .if10 .taken)
 
 atom-returns-10 : (t : ℕ) → atom-lts.Need-returns-10 (atom-calls t) (atom-at t) atom.Post
 atom-returns-10 t c =
@@ -153,18 +154,18 @@ atom-returns-10 t c =
     let c6 = c4 .before .before in
     let c7 = c6 .before in
     let c8 = c7 .before in
-    paren-stops _ _ _ (omega arith) (c8 .if7 .taken) (c7 .if8 .taken) _ (join-told _ _ _ _ _ _ (c4 .inner .given .1) (c6 .sum .ensures))
-    (join-lt _ _ _ _ _ (join-told _ _ _ _ _ _ (c4 .inner .given .1) (c6 .sum .ensures)) (c .before .before .if9 .left)) (c .if10 .left)
+    paren-stops _ _ _ _ (omega arith) (c8 .if7 .taken) (c7 .if8 .taken) _ (join-told _ _ _ _ _ _ _ (c4 .inner .given .1) (c6 .sum .ensures))
+    (join-lt _ _ _ _ _ _ (join-told _ _ _ _ _ _ _ (c4 .inner .given .1) (c6 .sum .ensures)) (c .before .before .if9 .left)) (c .if10 .left)
 
 atom-returns-11 : (t : ℕ) → atom-lts.Need-returns-11 (atom-calls t) (atom-at t) atom.Post
-atom-returns-11 t c = atom-over _ _ _ (omega arith) (inr (c .before .if7 .taken)) (c .if8 .left)
+atom-returns-11 t c = atom-over _ _ _ _ (omega arith) (inr (c .before .if7 .taken)) (c .if8 .left)
 
 atom-returns-12 : (t : ℕ) → atom-lts.Need-returns-12 (atom-calls t) (atom-at t) atom.Post
-unfolding step
+unfolding step x-begins?
 atom-returns-12 t c =
     let c3 = c .before .before .before in
     let c4 = c3 .before in
-    atom-stop _ _ _ _ (omega arith) (λ sa pa m σ. simp (
+    atom-stop _ _ _ _ _ (omega arith) (λ sa pa m σ. simp (
       ne-eqb _ _ (c4 .if2 .left),
       ne-eqb _ _ (c3 .if3 .left),
       ne-eqb _ _ (c .before .before .if4 .left),
@@ -174,57 +175,57 @@ atom-returns-12 t c =
     ))
 
 abbrev product-Inv-loop : product-lts.InvT-loop
-product-Inv-loop text at depth from₀ from = Joined text depth at from
+product-Inv-loop text at depth from₀ from = Joined x-forms text depth at from
 
 abbrev product-μ-loop : product-lts.MeasureT-loop
 product-μ-loop text at depth from₀ from = length text - from
 
 product-loop-holds : (t : ℕ) → product-lts.Need-loop-holds (product-calls t) (product-at t) product.Post product-Inv-loop product-μ-loop
-product-loop-holds t c = joined-none _ _ _ (omega arith)
+product-loop-holds t c = joined-none _ _ _ _ (omega arith)
 
 product-starred-requires : (t : ℕ) → product-lts.Need-starred-requires (product-calls t) (product-at t) product.Post product-Inv-loop product-μ-loop
 product-starred-requires t c κs =
-    let from = joined-from _ _ _ _ (c .loop .inv) in
-    let within = joined-in _ _ _ _ (c .loop .inv) in
+    let from = joined-from _ _ _ _ _ (c .loop .inv) in
+    let within = joined-in _ _ _ _ _ (c .loop .inv) in
     omega arith
 
 product-returns : (t : ℕ) → product-lts.Need-returns (product-calls t) (product-at t) product.Post product-Inv-loop product-μ-loop
-product-returns t c = joined-last _ _ _ _ _ _ (c .before .before .loop .inv) (join-refused _ _ _ _ _ _ (c .match .keys2) (c .before .starred .ensures))
+product-returns t c = joined-last _ _ _ _ _ _ _ (c .before .before .loop .inv) (join-refused _ _ _ _ _ _ _ (c .match .keys2) (c .before .starred .ensures))
 
 product-returns-2 : (t : ℕ) → product-lts.Need-returns-2 (product-calls t) (product-at t) product.Post product-Inv-loop product-μ-loop
 product-returns-2 t c =
     let c4 = c .before .before .before .before in
     let c5 = c4 .before in
-    joined-last _ _ _ _ _ _ (c5 .loop .inv)
-    (join-stop _ _ _ _ _ _ (λ l q. absurd (omega (arith, c .if1 .taken)))
-    (join-told _ _ _ _ _ _ (c .before .before .next .given .1) (c4 .starred .ensures)))
+    joined-last _ _ _ _ _ _ _ (c5 .loop .inv)
+    (join-stop _ _ _ _ _ _ _ (λ l q. absurd (omega (arith, c .if1 .taken)))
+    (join-told _ _ _ _ _ _ _ (c .before .before .next .given .1) (c4 .starred .ensures)))
 
 product-shared-slice-read-if2 : (t : ℕ) → product-lts.Need-shared-slice-read-if2 (product-calls t) (product-at t) product.Post product-Inv-loop product-μ-loop
 product-shared-slice-read-if2 t c =
     let c3 = c .before .before .before in
     let c5 = c3 .before .before in
-    join-lt _ _ _ _ _ (join-told _ _ _ _ _ _ (c3 .next .given .1) (c5 .starred .ensures)) (c .before .if1 .left)
+    join-lt _ _ _ _ _ _ (join-told _ _ _ _ _ _ _ (c3 .next .given .1) (c5 .starred .ensures)) (c .before .if1 .left)
 
 product-returns-3 : (t : ℕ) → product-lts.Need-returns-3 (product-calls t) (product-at t) product.Post product-Inv-loop product-μ-loop
 product-returns-3 t c =
     let c4 = c .before .before .before .before in
     let c6 = c4 .before .before in
     let c7 = c6 .before in
-    joined-last _ _ _ _ _ _ (c7 .loop .inv)
-    (join-stop _ _ _ _ _ _ (λ l q. or-falses _ _ q (ne-eqb _ _ (c .if2 .taken))) (join-told _ _ _ _ _ _ (c4 .next .given .1) (c6 .starred .ensures)))
+    joined-last _ _ _ _ _ _ _ (c7 .loop .inv)
+    (join-stop _ _ _ _ _ _ _ (λ l q. or-falses _ _ q (ne-eqb _ _ (c .if2 .taken))) (join-told _ _ _ _ _ _ _ (c4 .next .given .1) (c6 .starred .ensures)))
 
 product-add-from : (t : ℕ) → product-lts.Need-add-from (product-calls t) (product-at t) product.Post product-Inv-loop product-μ-loop
 product-add-from t c =
     let c4 = c .before .before .before .before in
     let c6 = c4 .before .before in
-    let h = join-lt _ _ _ _ _ (join-told _ _ _ _ _ _ (c4 .next .given .1) (c6 .starred .ensures)) (c .before .before .if1 .left) in omega arith
+    let h = join-lt _ _ _ _ _ _ (join-told _ _ _ _ _ _ _ (c4 .next .given .1) (c6 .starred .ensures)) (c .before .before .if1 .left) in omega arith
 
 product-loop-less : (t : ℕ) → product-lts.Need-loop-less (product-calls t) (product-at t) product.Post product-Inv-loop product-μ-loop
 product-loop-less t c =
     let c4 = c .before .before .before .before in
     let c6 = c4 .before .before in
-    let h = join-lt _ _ _ _ _ (join-told _ _ _ _ _ _ (c4 .next .given .1) (c6 .starred .ensures)) (c .before .before .if1 .left) in
-    let k = join-from _ _ _ _ _ (join-told _ _ _ _ _ _ (c4 .next .given .1) (c6 .starred .ensures)) in
+    let h = join-lt _ _ _ _ _ _ (join-told _ _ _ _ _ _ _ (c4 .next .given .1) (c6 .starred .ensures)) (c .before .before .if1 .left) in
+    let k = join-from _ _ _ _ _ _ (join-told _ _ _ _ _ _ _ (c4 .next .given .1) (c6 .starred .ensures)) in
     omega arith
 
 product-loop-again : (t : ℕ) → product-lts.Need-loop-again (product-calls t) (product-at t) product.Post product-Inv-loop product-μ-loop
@@ -232,75 +233,75 @@ product-loop-again t c =
     let c4 = c .before .before .before .before in
     let c6 = c4 .before .before in
     let c7 = c6 .before in
-    let read = join-told _ _ _ _ _ _ (c4 .next .given .1) (c6 .starred .ensures) in
-    joined-more _ _ _ _ _ _ (join-lt _ _ _ _ _ read (c .before .before .if1 .left)) (λ v sa pa σ. (_, _, step-semi v sa pa σ _ (c .if2 .left)))
+    let read = join-told _ _ _ _ _ _ _ (c4 .next .given .1) (c6 .starred .ensures) in
+    joined-more _ _ _ _ _ _ _ (join-lt _ _ _ _ _ _ read (c .before .before .if1 .left)) (λ v sa pa σ. (_, _, step-semi _ v sa pa σ _ (c .if2 .left)))
     (c7 .loop .inv) read
 
 starred-returns : (t : ℕ) → starred-lts.Need-returns (starred-calls t) (starred-at t) starred.Post
-starred-returns t c = join-atom-refused _ _ _ _ _ (c .match .keys2) (c .before .atom .ensures)
+starred-returns t c = join-atom-refused _ _ _ _ _ _ (c .match .keys2) (c .before .atom .ensures)
 
 starred-stars-requires : (t : ℕ) → starred-lts.Need-stars-requires (starred-calls t) (starred-at t) starred.Post
 starred-stars-requires t c κs =
     let c3 = c .before .before .before in
-    atom-in _ _ _ _ (atom-told _ _ _ _ _ _ (c .before .first .given .1) (c3 .atom .ensures))
+    atom-in _ _ _ _ _ (atom-told _ _ _ _ _ _ _ (c .before .first .given .1) (c3 .atom .ensures))
 
 starred-returns-2 : (t : ℕ) → starred-lts.Need-returns-2 (starred-calls t) (starred-at t) starred.Post
 starred-returns-2 t c =
     let c4 = c .before .before .before .before in
-    join-stars _ _ _ _ _ (atom-told _ _ _ _ _ _ (c .before .before .first .given .1) (c4 .atom .ensures)) (c .stars .ensures)
+    join-stars _ _ _ _ _ _ (atom-told _ _ _ _ _ _ _ (c .before .before .first .given .1) (c4 .atom .ensures)) (c .stars .ensures)
 
 abbrev sum-Inv-loop : sum-lts.InvT-loop
-sum-Inv-loop text at depth from₀ from = Joined text depth at from
+sum-Inv-loop text at depth from₀ from = Joined x-forms text depth at from
 
 abbrev sum-μ-loop : sum-lts.MeasureT-loop
 sum-μ-loop text at depth from₀ from = length text - from
 
 sum-loop-holds : (t : ℕ) → sum-lts.Need-loop-holds (sum-calls t) (sum-at t) sum.Post sum-Inv-loop sum-μ-loop
-sum-loop-holds t c = joined-none _ _ _ (omega arith)
+sum-loop-holds t c = joined-none _ _ _ _ (omega arith)
 
 sum-product-requires : (t : ℕ) → sum-lts.Need-product-requires (sum-calls t) (sum-at t) sum.Post sum-Inv-loop sum-μ-loop
 sum-product-requires t c κs =
-    let from = joined-from _ _ _ _ (c .loop .inv) in
-    let within = joined-in _ _ _ _ (c .loop .inv) in
+    let from = joined-from _ _ _ _ _ (c .loop .inv) in
+    let within = joined-in _ _ _ _ _ (c .loop .inv) in
     omega arith
 
 sum-returns : (t : ℕ) → sum-lts.Need-returns (sum-calls t) (sum-at t) sum.Post sum-Inv-loop sum-μ-loop
-sum-returns t c = joined-last _ _ _ _ _ _ (c .before .before .loop .inv) (join-refused _ _ _ _ _ _ (c .match .keys2) (c .before .product .ensures))
+sum-returns t c = joined-last _ _ _ _ _ _ _ (c .before .before .loop .inv) (join-refused _ _ _ _ _ _ _ (c .match .keys2) (c .before .product .ensures))
 
 sum-returns-2 : (t : ℕ) → sum-lts.Need-returns-2 (sum-calls t) (sum-at t) sum.Post sum-Inv-loop sum-μ-loop
 sum-returns-2 t c =
     let c4 = c .before .before .before .before in
     let c5 = c4 .before in
-    joined-last _ _ _ _ _ _ (c5 .loop .inv)
-    (join-stop _ _ _ _ _ _ (λ l q. absurd (omega (arith, c .if1 .taken)))
-    (join-told _ _ _ _ _ _ (c .before .before .next .given .1) (c4 .product .ensures)))
+    joined-last _ _ _ _ _ _ _ (c5 .loop .inv)
+    (join-stop _ _ _ _ _ _ _ (λ l q. absurd (omega (arith, c .if1 .taken)))
+    (join-told _ _ _ _ _ _ _ (c .before .before .next .given .1) (c4 .product .ensures)))
 
 sum-shared-slice-read-if2 : (t : ℕ) → sum-lts.Need-shared-slice-read-if2 (sum-calls t) (sum-at t) sum.Post sum-Inv-loop sum-μ-loop
 sum-shared-slice-read-if2 t c =
     let c3 = c .before .before .before in
     let c5 = c3 .before .before in
-    join-lt _ _ _ _ _ (join-told _ _ _ _ _ _ (c3 .next .given .1) (c5 .product .ensures)) (c .before .if1 .left)
+    join-lt _ _ _ _ _ _ (join-told _ _ _ _ _ _ _ (c3 .next .given .1) (c5 .product .ensures)) (c .before .if1 .left)
 
 sum-returns-3 : (t : ℕ) → sum-lts.Need-returns-3 (sum-calls t) (sum-at t) sum.Post sum-Inv-loop sum-μ-loop
 sum-returns-3 t c =
     let c4 = c .before .before .before .before in
     let c6 = c4 .before .before in
     let c7 = c6 .before in
-    joined-last _ _ _ _ _ _ (c7 .loop .inv)
-    (join-stop _ _ _ _ _ _ (λ l q. or-falses _ _ q (ne-eqb _ _ (c .if2 .taken))) (join-told _ _ _ _ _ _ (c4 .next .given .1) (c6 .product .ensures)))
+    joined-last _ _ _ _ _ _ _ (c7 .loop .inv)
+    (join-stop _ _ _ _ _ _ _ (λ l q. or-falses _ _ q (ne-eqb _ _ (c .if2 .taken))) (join-told _ _ _ _ _ _ _ (c4 .next .given .1) (c6 .product .ensures)))
 
 sum-add-from : (t : ℕ) → sum-lts.Need-add-from (sum-calls t) (sum-at t) sum.Post sum-Inv-loop sum-μ-loop
 sum-add-from t c =
     let c4 = c .before .before .before .before in
     let c6 = c4 .before .before in
-    let h = join-lt _ _ _ _ _ (join-told _ _ _ _ _ _ (c4 .next .given .1) (c6 .product .ensures)) (c .before .before .if1 .left) in omega arith
+    let h = join-lt _ _ _ _ _ _ (join-told _ _ _ _ _ _ _ (c4 .next .given .1) (c6 .product .ensures)) (c .before .before .if1 .left) in omega arith
 
 sum-loop-less : (t : ℕ) → sum-lts.Need-loop-less (sum-calls t) (sum-at t) sum.Post sum-Inv-loop sum-μ-loop
 sum-loop-less t c =
     let c4 = c .before .before .before .before in
     let c6 = c4 .before .before in
-    let h = join-lt _ _ _ _ _ (join-told _ _ _ _ _ _ (c4 .next .given .1) (c6 .product .ensures)) (c .before .before .if1 .left) in
-    let k = join-from _ _ _ _ _ (join-told _ _ _ _ _ _ (c4 .next .given .1) (c6 .product .ensures)) in
+    let h = join-lt _ _ _ _ _ _ (join-told _ _ _ _ _ _ _ (c4 .next .given .1) (c6 .product .ensures)) (c .before .before .if1 .left) in
+    let k = join-from _ _ _ _ _ _ (join-told _ _ _ _ _ _ _ (c4 .next .given .1) (c6 .product .ensures)) in
     omega arith
 
 sum-loop-again : (t : ℕ) → sum-lts.Need-loop-again (sum-calls t) (sum-at t) sum.Post sum-Inv-loop sum-μ-loop
@@ -308,8 +309,8 @@ sum-loop-again t c =
     let c4 = c .before .before .before .before in
     let c6 = c4 .before .before in
     let c7 = c6 .before in
-    let read = join-told _ _ _ _ _ _ (c4 .next .given .1) (c6 .product .ensures) in
-    joined-more _ _ _ _ _ _ (join-lt _ _ _ _ _ read (c .before .before .if1 .left)) (λ v sa pa σ. (_, _, step-plus v sa pa σ _ (c .if2 .left)))
+    let read = join-told _ _ _ _ _ _ _ (c4 .next .given .1) (c6 .product .ensures) in
+    joined-more _ _ _ _ _ _ _ (join-lt _ _ _ _ _ _ read (c .before .before .if1 .left)) (λ v sa pa σ. (_, _, step-plus _ v sa pa σ _ (c .if2 .left)))
     (c7 .loop .inv) read
 
 pub +atom+product+starred+sum-spec : {M : Type 1} → statement M

@@ -1,18 +1,21 @@
 -- `read_field` moves the run over what follows `x`: by one or two digits, then `read_relation`.
-use borrow.Author.Tests.{eq-eqb, ne-eqb}
 use native.Mathlib.Omega.{arith}
-use mathlib.Core.Path.{refl, sym, _∙_}
-use Prim.Native.Nat.{_-_, _+_, _*_}
+use mathlib.Core.Path.{refl, sym, ap, _∙_}
+use Prim.Native.Nat.{ℕ, _+_}
+use mathlib.Core.List.{[], _∷_}
 use lib.ListN.{getD}
-use Rattle.texts.specs.Machine.{inside, named, digit, final, step, mid-step, mid-go, after-name}
-use Rattle.texts.proofs.Moves.{atom-end, atom-go, atom-stop, atom-same}
+use Rattle.texts.specs.XForms.{x-begins?, x-whole?, x-forms}
+use Rattle.texts.specs.Posts.{RelationPost}
+use Rattle.texts.specs.Machine.{inside, spelt, final, step, mid-step, mid-go, after-name}
+use Rattle.texts.proofs.Moves.{atom-end, atom-go, atom-stop}
+use Rattle.texts.proofs.XLaws.{zero-whole, one-whole, two-whole, one-closed, digit-tens}
 use borrow.Author.Needs.{needs}
 use Rattle.texts.proofs.syntax.read_field.Statement.{statement}
 use Rattle.texts.proofs.syntax.read_field.Tie as tie
 
 returns : tie.Need-returns
 unfolding final
-returns c = λ d. atom-end _ d _ _ (c .if1 .taken) (λ sa pa m σ. refl)
+returns c = λ d. atom-end _ _ d _ _ (c .if1 .taken) (λ sa pa m σ. refl)
 
 shared-slice-read-b : tie.Need-shared-slice-read-b
 shared-slice-read-b c = search needs
@@ -24,8 +27,11 @@ read-relation-requires : tie.Need-read-relation-requires
 read-relation-requires c κs = search needs
 
 returns-2 : tie.Need-returns-2
-unfolding step mid-step mid-go after-name
-returns-2 c = λ d. atom-go _ d _ (inside (named 0)) _ _ (omega arith) (λ sa pa m σ. simp (eq-eqb _ _ (c .before .if2 .taken))) (c .read-relation .ensures 0 d)
+unfolding step mid-step mid-go x-begins? RelationPost
+returns-2 c =
+    let e = c .before .if2 .taken in
+    λ d. atom-go _ _ d _ (inside (spelt (120 ∷ 48 ∷ []))) _ _ (omega arith)
+    (λ sa pa m σ. ap (λ (b : ℕ). step x-forms 32 (inside (spelt (120 ∷ [])) sa pa m σ) b) e) (c .read-relation .ensures _ 0 d zero-whole (λ _. refl))
 
 is-digit-requires : tie.Need-is-digit-requires
 is-digit-requires c κs = search needs
@@ -34,13 +40,12 @@ add-next : tie.Need-add-next
 add-next c = search needs
 
 returns-3 : tie.Need-returns-3
-unfolding step mid-step mid-go after-name final
+unfolding step mid-step mid-go x-begins? final
 returns-3 c =
-    let c3 = c .before .before .before in
-    let c7 = c3 .before .before .before .before in
-    λ d. atom-go _ d _ (inside (digit (getD (c7 .args .text .now) (c7 .args .at) 0 - 48))) _ _ (omega arith)
-    (λ sa pa m σ. simp (ne-eqb _ _ (c3 .if2 .left), (sym (c .before .before .is-digit .ensures) ∙ c .before .if3 .taken)))
-    (atom-end _ d _ _ (c .if4 .taken) (λ sa pa m σ. refl))
+    let c7 = c .before .before .before .before .before .before .before in
+    λ d. atom-go _ _ d _ (inside (spelt (120 ∷ getD (c7 .args .text .now) (c7 .args .at) 0 ∷ []))) _ _ (omega arith)
+    (λ sa pa m σ. simp (sym (c .before .before .is-digit .ensures) ∙ c .before .if3 .taken))
+    (atom-end _ _ d _ _ (c .if4 .taken) (λ sa pa m σ. refl))
 
 shared-slice-read-is-digit : tie.Need-shared-slice-read-is-digit
 shared-slice-read-is-digit c = search needs
@@ -55,38 +60,39 @@ read-relation-requires-2 : tie.Need-read-relation-requires-2
 read-relation-requires-2 c κs = search needs
 
 returns-4 : tie.Need-returns-4
-unfolding step mid-step mid-go after-name
+unfolding step mid-step mid-go x-begins? RelationPost
 returns-4 c =
     let c5 = c .before .before .before .before .before in
     let c6 = c5 .before in
     let c7 = c6 .before in
     let c11 = c7 .before .before .before .before in
-    λ d. atom-go _ d _ (inside (digit (getD (c11 .args .text .now) (c11 .args .at) 0 - 48))) _ _ (omega arith)
-    (λ sa pa m σ. simp (ne-eqb _ _ (c7 .if2 .left), (sym (c6 .is-digit .ensures) ∙ c5 .if3 .taken)))
-    (atom-go _ d _ (inside (named ((getD (c11 .args .text .now) (c11 .args .at) 0 - 48) * 10 +
-    (getD (c11 .args .text .now) (c11 .args .at + 1) 0 - 48)))) _ _ (omega arith)
-    (λ sa pa m σ. simp (sym (c .before .before .is-digit2 .ensures) ∙ c .before .if5 .taken)) (c .read-relation2 .ensures _ d))
+    let a = getD (c11 .args .text .now) (c11 .args .at) 0 in
+    let b = getD (c11 .args .text .now) (c11 .args .at + 1) 0 in
+    let h = sym (c6 .is-digit .ensures) ∙ c5 .if3 .taken in
+    let k = sym (c .before .before .is-digit2 .ensures) ∙ c .before .if5 .taken in
+    let l = digit-tens a (c7 .if2 .left) h in
+    λ d. atom-go _ _ d _ (inside (spelt (120 ∷ a ∷ []))) _ _ (omega arith) (λ sa pa m σ. simp h)
+    (atom-go _ _ d _ (inside (spelt (120 ∷ a ∷ b ∷ []))) _ _ (omega arith) (λ sa pa m σ. simp (l, k))
+    (c .read-relation2 .ensures _ _ d (two-whole a b l k) (λ _. refl)))
 
 read-relation-requires-3 : tie.Need-read-relation-requires-3
 read-relation-requires-3 c κs = search needs
 
 returns-5 : tie.Need-returns-5
-unfolding step mid-step mid-go after-name
+unfolding step mid-step mid-go x-begins? RelationPost
 returns-5 c =
     let c5 = c .before .before .before .before .before in
     let c6 = c5 .before in
-    let c7 = c6 .before in
-    let c11 = c7 .before .before .before .before in
-    λ d. atom-go _ d _ (inside (digit (getD (c11 .args .text .now) (c11 .args .at) 0 - 48))) _ _ (omega arith)
-    (λ sa pa m σ. simp (ne-eqb _ _ (c7 .if2 .left), (sym (c6 .is-digit .ensures) ∙ c5 .if3 .taken)))
-    (atom-same _ d _ (inside (named (getD (c11 .args .text .now) (c11 .args .at) 0 - 48))) _ _ (omega arith)
-    (λ sa pa m σ. simp (sym (c .before .before .is-digit2 .ensures) ∙ c .before .if5 .left)) (c .read-relation3 .ensures _ d))
+    let c11 = c6 .before .before .before .before .before in
+    let a = getD (c11 .args .text .now) (c11 .args .at) 0 in
+    let h = sym (c6 .is-digit .ensures) ∙ c5 .if3 .taken in
+    λ d. atom-go _ _ d _ (inside (spelt (120 ∷ a ∷ []))) _ _ (omega arith) (λ sa pa m σ. simp h)
+    (c .read-relation3 .ensures _ _ d (one-whole a h)
+    (λ _. one-closed a (getD (c11 .args .text .now) (c11 .args .at + 1) 0) (sym (c .before .before .is-digit2 .ensures) ∙ c .before .if5 .left)))
 
 returns-6 : tie.Need-returns-6
-unfolding step mid-step mid-go after-name
-returns-6 c =
-    λ d. atom-stop _ d _ _ (omega arith) (λ sa pa m σ. simp
-    (ne-eqb _ _ (c .before .before .if2 .left), sym (c .before .is-digit .ensures) ∙ c .if3 .left))
+unfolding step mid-step mid-go after-name x-begins? x-whole?
+returns-6 c = λ d. atom-stop _ _ d _ _ (omega arith) (λ sa pa m σ. simp (sym (c .before .is-digit .ensures) ∙ c .if3 .left))
 
 pub read-field-spec : {M : Type 1} → statement M
 read-field-spec =
