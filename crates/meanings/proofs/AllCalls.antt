@@ -1,5 +1,5 @@
--- The law for one call, of all 43: on memories that match a plain store it gives the same answer, they match again, and the lists
--- only grow unless `new` is accepted. From the law for the store's calls, and for a text from what its program leaves.
+-- The law for one call, of all 43: on memories that match a plain store it gives the same answer, they match again, and handles
+-- last unless `new` is accepted. From the law for the store's calls, and for a text from what its program leaves.
 use mathlib.Core.Path.{refl}
 use mathlib.Core.List.{List}
 use Prim.Native.Nat.{ℕ}
@@ -8,7 +8,7 @@ use Rattle.outcomes.specs.OnMemories.{set-places, rel-places}
 use Rattle.meanings.specs.Lists.{Matches, Alike, CallRight}
 use Rattle.meanings.specs.PlainStore.{Plain, plain-policy-step}
 use Rattle.meanings.proofs.OneCall.{Sound, retold-alike, verdict-alike, verdict-right, call-right}
-use Rattle.meanings.specs.EveryList.{AnyCall, call, policy, answered, read, any-step, plain-any-step, all-calls}
+use Rattle.meanings.specs.AllCalls.{AnyCall, call, policy, answered, read, any-step, plain-any-step, all-calls}
 use Rattle.policies.specs.Outcome.{refused, text-verdict, policy-step}
 use Rattle.meanings.proofs.OneText.{kept-does}
 use Rattle.meanings.proofs.KeptTexts.{builds-kept}
@@ -24,5 +24,5 @@ module _ {M₀ M : Memories} {P : Plain} (A : Matches M₀ M P) where
   -- THE LAW FOR ONE CALL
   pub any-right : (c : AnyCall) → CallRight all-calls M₀ M P c
   unfolding any-step plain-any-step policy-step plain-policy-step
-  any-right (call c) = let r = call-right A c in record { alike = retold-alike answered (r .alike); grown = λ g. r .grown g }
+  any-right (call c) = let r = call-right A c in record { alike = retold-alike answered (r .alike); goes-on = λ g. r .goes-on g }
   any-right (policy t) = verdict-right A all-calls (policy t) read refused (text-verdict t) (text-sound t) refl refl

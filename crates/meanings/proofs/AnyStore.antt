@@ -7,7 +7,7 @@ use Rattle.meanings.specs.Lists.{NewRefused, Matches}
 use Rattle.meanings.specs.PlainStore.{plain-store}
 use Rattle.judging.specs.Memory.{Memories, memories, fields, decode, encode}
 use Rattle.judging.specs.Valid.{IsStore}
-use Rattle.meanings.proofs.OneCall.{call-right}
+use Rattle.meanings.proofs.OneCall.{call-right, call-grown}
 use Rattle.outcomes.proofs.Outcomes.{same-memory}
 
 -- a store matches the plain store that it holds
@@ -41,7 +41,7 @@ module _ {M : Memories} (s : IsStore M) (c : Call) where
     r k e = absurd (o (subst IsNew (sym e) tt))
 
     pub step-fields : fields (step c M .state) ≡ fields M
-    step-fields = call-right (matches-own s) c .alike .matches .width ∙ call-right (matches-own s) c .grown r .width
+    step-fields = call-right (matches-own s) c .alike .matches .width ∙ call-grown (matches-own s) c r .width
 
     pub step-extends : Extends (decode M) (decode (step c M .state))
-    step-extends = subst (Extends (decode M)) (sym (call-right (matches-own s) c .alike .matches .lists)) (call-right (matches-own s) c .grown r .lists)
+    step-extends = subst (Extends (decode M)) (sym (call-right (matches-own s) c .alike .matches .lists)) (call-grown (matches-own s) c r .lists)

@@ -19,7 +19,7 @@ use Rattle.texts.specs.Reading.{reading}
 use Rattle.texts.specs.declared.Reading.{Reading}
 use Rattle.texts.proofs.XLaws.{x-lawful, x-bounds}
 use Rattle.texts.proofs.Says.{keeps-rules, tree-is}
-use Rattle.meanings.specs.EveryList.{Keeps, policy-of}
+use Rattle.meanings.specs.AllCalls.{Keeps, policy-of}
 use Rattle.outcomes.proofs.Going.{program-in, not-runs}
 use Rattle.policies.specs.Outcome.{refused, built-handle, of-reading, short?, text-verdict}
 use Rattle.policies.specs.declared.PolicyAnswer.{PolicyAnswer}

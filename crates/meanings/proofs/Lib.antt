@@ -12,5 +12,6 @@ pub mod WrongLists
 pub mod KeptTexts
 pub mod OneText
 pub mod AllCalls
-pub mod EveryList
+pub mod Histories
+pub mod EveryHistory
 pub mod WrongTexts

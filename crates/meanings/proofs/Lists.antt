@@ -1,28 +1,26 @@
 -- The theorem about a list of calls, from the law for one call: document 01, "A list of calls, and its count".
-use mathlib.Core.Path.{_≡_, sym, _∙_, subst}
+use mathlib.Core.Path.{_≡_, refl, sym, _∙_, subst, subst₂}
 use mathlib.Core.List.{List}
 use Prim.Native.Nat.{ℕ}
-use Rattle.nodes.specs.Store.{Store}
-use Rattle.nodes.specs.WellFormed.{Extends}
-use Rattle.nodes.proofs.Extends.{ext-trans, ext-held, ext-walk}
+use Rattle.nodes.proofs.Extends.{lasts-same, lasts-then}
 use Rattle.store.specs.Calls.{Call, new-store, step}
 use Rattle.outcomes.specs.OnMemories.{set-places, rel-places}
 use Rattle.meanings.specs.Lists.{Listed, Calling, answer-of, left-by, steps, plain-steps, AllGoOn, Matches}
-use Rattle.meanings.specs.Lists.{Grown, Lasts, CallRight, ListRight, store-calls}
+use Rattle.meanings.specs.Lists.{HandlesLast, GoesOnTo, CallRight, ListRight, store-calls}
 use Rattle.meanings.specs.PlainStore.{Plain}
 use Rattle.judging.specs.Memory.{Memories, decode}
 use Rattle.outcomes.specs.Outcome.{Told}
 use Rattle.outcomes.specs.declared.Answer.the-variants.{Handle}
 use Rattle.meanings.proofs.InTurn.{turn-parted, each-later, turn-answers, turn-kept, turn-goes}
 use Rattle.meanings.proofs.NewMatches.{new-matches}
-use Rattle.meanings.proofs.OneCall.{grown-none, call-right}
+use Rattle.meanings.proofs.OneCall.{call-right}
 
--- what nodes that were added leave as it was
-pub grown-lasts : {S S′ : Store} → Extends S S′ → Lasts S S′
-grown-lasts E = record { grown = E; held = λ K l h A. ext-held E K l h A; walks = λ K l h A ds D. ext-walk E h A D }
+-- handles that last, from plain store to plain store
+goes-none : (P : Plain) → GoesOnTo P P
+goes-none P = record { width = refl; handles = λ K l h A. lasts-same A }
 
-pub grown-then : (P Q R : Plain) → Grown P Q → Grown Q R → Grown P R
-grown-then P Q R f g = record { width = g .width ∙ f .width; lists = ext-trans (f .lists) (g .lists) }
+goes-then : (P Q R : Plain) → GoesOnTo P Q → GoesOnTo Q R → GoesOnTo P R
+goes-then P Q R f g = record { width = g .width ∙ f .width; handles = λ K l h A. let u = f .handles K l h A in lasts-then u (g .handles K l h (u .held)) }
 
 -- calls for which the law for one call holds
 module _ {C A : Type 0} (Z : Calling C A) (right : (M₀ M : Memories) (P : Plain) → Matches M₀ M P → (c : C) → CallRight Z M₀ M P c) where
@@ -48,13 +46,12 @@ module _ {C A : Type 0} (Z : Calling C A) (right : (M₀ M : Memories) (P : Plai
       list-matches : Matches M₀ (steps Z cs M .state) (ended .state)
       list-matches = turn-kept (answer-of on) (left-by on) (answer-of beside) (left-by beside) (Matches M₀) kept cs M P m
 
-      list-grown : AllGoOn Z cs M → Grown P (ended .state)
-      list-grown r = turn-goes (answer-of on) (left-by on) (answer-of beside) (left-by beside) (Matches M₀) kept (Z .GoesOn) Grown grown-none grown-then
-          (λ c M P m. right M₀ M P m c .grown) cs M P m r
+      list-goes : AllGoOn Z cs M → GoesOnTo P (ended .state)
+      list-goes r = turn-goes (answer-of on) (left-by on) (answer-of beside) (left-by beside) (Matches M₀) kept (Z .GoesOn) GoesOnTo goes-none goes-then
+          (λ c M P m. right M₀ M P m c .goes-on) cs M P m r
 
-      list-lasts : AllGoOn Z cs M → Lasts (decode M) (decode (steps Z cs M .state))
-      list-lasts r = let E = subst (λ S. Extends S (ended .state .lists)) (sym (m .lists)) (list-grown r .lists) in
-          grown-lasts (subst (Extends (decode M)) (sym (list-matches .lists)) E)
+      list-lasts : AllGoOn Z cs M → HandlesLast (decode M) (decode (steps Z cs M .state))
+      list-lasts r = subst₂ HandlesLast (sym (m .lists)) (sym (list-matches .lists)) (list-goes r .handles)
 
   -- THE THEOREM: after an accepted `new`, whatever the memories were before it and whatever the calls
   pub lists-right : (k : ℕ) (M₀ : Memories) (h : ℕ) → step (new-store k) M₀ .answer ≡ Handle h → (cs : List C) → ListRight Z k M₀ cs
@@ -65,10 +62,10 @@ module _ {C A : Type 0} (Z : Calling C A) (right : (M₀ M : Memories) (P : Plai
         new-answer = t .0;
         answers = list-answers M₀ cs m;
         matches = list-matches M₀ cs m;
-        width = λ r. list-matches M₀ cs m .width ∙ list-grown M₀ cs m r .width;
+        width = λ r. list-matches M₀ cs m .width ∙ list-goes M₀ cs m r .width;
         lasts = λ r before later q. let S = decode (steps Z before M .state) in
-            subst (λ cs. Lasts S (decode (steps Z cs M .state))) (sym q)
-            (subst (λ X. Lasts S (decode X)) (sym (turn-parted (answer-of (Z .on-memories)) (left-by (Z .on-memories)) before later M))
+            subst (λ cs. HandlesLast S (decode (steps Z cs M .state))) (sym q)
+            (subst (λ X. HandlesLast S (decode X)) (sym (turn-parted (answer-of (Z .on-memories)) (left-by (Z .on-memories)) before later M))
             (list-lasts M₀ later (list-matches M₀ before m)
             (each-later (answer-of (Z .on-memories)) (left-by (Z .on-memories)) (Z .GoesOn) before later M (subst (λ cs. AllGoOn Z cs M) q r))));
       }

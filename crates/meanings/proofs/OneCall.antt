@@ -11,10 +11,10 @@ use Rattle.nodes.specs.Images.{blank, new}
 use Rattle.nodes.specs.Places.{fits-places}
 use Rattle.nodes.specs.Programs.{Prog, Ran, run}
 use Rattle.nodes.specs.Store.{Kind, set, rel, Store, pick}
-use Rattle.nodes.specs.WellFormed.{WellFormed}
+use Rattle.nodes.specs.WellFormed.{WellFormed, Extends}
 use Rattle.nodes.proofs.Bools.{by-test}
 use Rattle.nodes.proofs.Bounded.{fits-places-iff}
-use Rattle.nodes.proofs.Extends.{ext-refl}
+use Rattle.nodes.proofs.Extends.{ext-refl, ext-lasts}
 use Rattle.nodes.proofs.New.{new-does}
 use Rattle.nodes.proofs.Settle.{run-ext}
 use Rattle.store.specs.Calls.{Call, new-store, set-call, set-read, relation-call, relation-read, image-call, filter-call, path-read}
@@ -22,8 +22,8 @@ use Rattle.store.specs.Calls.{step}
 use Rattle.outcomes.specs.OnMemories.{set-places, rel-places, on-store, heads?, new-step}
 use Rattle.store.specs.ImageCalls.{image-declines, image-program, image-verdict, filter-declines, filter-program, filter-verdict, path-declines, path-answer}
 use Rattle.store.specs.ImageCalls.{path-verdict}
-use Rattle.meanings.specs.Lists.{Calling, Refused, Matches, Alike, Grown, store-calls, CallRight}
-use Rattle.meanings.specs.PlainStore.{Plain, plain-store, on-lists, plain-step}
+use Rattle.meanings.specs.Lists.{Calling, Refused, NewRefused, Matches, Alike, GoesOnTo, store-calls, CallRight}
+use Rattle.meanings.specs.PlainStore.{Plain, plain-store, asked, on-lists, plain-step}
 use Rattle.judging.specs.Memory.{Memories, memory, head, fields, decode, encode}
 use Rattle.outcomes.specs.Outcome.{Verdict, gives, runs, going, handle-of, provided, Told, told, retold, concludes}
 use Rattle.store.specs.RelationCalls.{relation-declines, relation-program, relation-verdict, relation-read-declines, relation-read-answer}
@@ -77,7 +77,11 @@ image-sound c = runs-sound Declined (λ k S. image-declines k c S) (λ k l. imag
 filter-sound : (c : FilterCall) → Sound (filter-verdict c)
 filter-sound c = runs-sound Declined (λ k S. filter-declines k c S) (λ k l. filter-program l c) (λ S. handle-of) (λ k S l F e. filter-does F c e .after .formed)
 
--- THE LISTS ONLY GROW
+-- THE LISTS ONLY GROW: P′ has the number of fields of P, and its lists have the nodes of P's and perhaps more after them
+pub record Grown (P P′ : Plain) : Type 0 where
+  pub width : P′ .width ≡ P .width
+  pub lists : Extends (P .lists) (P′ .lists)
+
 pub grown-none : (P : Plain) → Grown P P
 grown-none P = record { width = refl; lists = ext-refl }
 
@@ -90,6 +94,10 @@ verdict-grown {A} refuse m n v P = by-verdict (v (P .width) (P .lists))
     by-verdict (runs p f) = let S = run p (P .lists) .store in
         by-test (λ b. Grown P (pick b (told (f (run p (P .lists))) (plain-store (P .width) S)) (told (refuse UsedUp) P) .state))
         (fits-places m n S) (λ t. record { width = refl; lists = run-ext p (P .lists) }) (λ t. grown-none P)
+
+-- so the handles last
+pub grown-goes-on : {P P′ : Plain} → Grown P P′ → GoesOnTo P P′
+grown-goes-on g = record { width = g .width; handles = λ K l h A. ext-lasts (g .lists) A }
 
 -- a refusal is no handle
 pub not-handle : {r : Refusal} {h : ℕ} → Declined r ≡ Handle h → ⊥
@@ -150,7 +158,7 @@ module _ {M₀ M : Memories} {P : Plain} (A : Matches M₀ M P) where
   heads-yes = rw (le-leb _ _ (A .store .room rel .headed), le-leb _ _ (A .store .room set .headed))
 
   new-alike : (k : ℕ) → Alike M₀ (step (new-store k) M) (plain-step m n (new-store k) P)
-  unfolding step new-step plain-step
+  unfolding step new-step plain-step asked
   new-alike k =
       let c = provided OutOfRange (leb k 32) (Level k) in
       let v = going Declined c (λ k. runs (new k) handle-of) in
@@ -172,20 +180,32 @@ module _ {M₀ M : Memories} {P : Plain} (A : Matches M₀ M P) where
   verdict-right Z c g refuse v s e f = record {
     alike = subst (λ t. Alike M₀ t (Z .on-plain m n c P)) (sym e)
         (subst (Alike M₀ (retold g (on-store refuse v M))) (sym f) (retold-alike g (verdict-alike refuse v s)));
-    grown = λ r. subst (λ u. Grown P (u .state)) (sym f) (verdict-grown refuse m n v P);
+    goes-on = λ r. subst (λ u. GoesOnTo P (u .state)) (sym f) (grown-goes-on (verdict-grown refuse m n v P));
   }
 
+  new-grown : (k : ℕ) → NewRefused (new-store k) M → Grown P (plain-step m n (new-store k) P .state)
+  unfolding plain-step asked
+  new-grown k r = subst (Grown P) (sym (refused-stays m n (provided OutOfRange (leb k 32) (Level k)) new blank P (plain-store k)
+      (subst Refused (new-alike k .answer) (r k refl)))) (grown-none P)
+
+  -- the calls of `store` only add nodes, unless `new` is accepted
+  pub call-grown : (c : Call) → NewRefused c M → Grown P (plain-step m n c P .state)
+  unfolding plain-step asked on-lists
+  call-grown (new-store k) r = new-grown k r
+  call-grown (set-call c) r = verdict-grown Declined m n (set-verdict c) P
+  call-grown (set-read c) r = verdict-grown Declined m n (set-read-verdict c) P
+  call-grown (relation-call c) r = verdict-grown Declined m n (relation-verdict c) P
+  call-grown (relation-read c) r = verdict-grown Declined m n (relation-read-verdict c) P
+  call-grown (image-call c) r = verdict-grown Declined m n (image-verdict c) P
+  call-grown (filter-call c) r = verdict-grown Declined m n (filter-verdict c) P
+  call-grown (path-read c) r = verdict-grown Declined m n (path-verdict c) P
+
   new-right : (k : ℕ) → CallRight store-calls M₀ M P (new-store k)
-  unfolding plain-step
-  new-right k = record {
-    alike = new-alike k;
-    grown = λ r. subst (Grown P) (sym (refused-stays m n (provided OutOfRange (leb k 32) (Level k)) new blank P (plain-store k)
-        (subst Refused (new-alike k .answer) (r k refl)))) (grown-none P);
-  }
+  new-right k = record { alike = new-alike k; goes-on = λ r. grown-goes-on (new-grown k r) }
 
   -- THE LAW FOR ONE CALL
   pub call-right : (c : Call) → CallRight store-calls M₀ M P c
-  unfolding step plain-step
+  unfolding step plain-step asked on-lists
   call-right (new-store k) = new-right k
   call-right (set-call c) = verdict-right store-calls (set-call c) (λ a. a) Declined (set-verdict c) (set-sound c) refl refl
   call-right (set-read c) = verdict-right store-calls (set-read c) (λ a. a) Declined (set-read-verdict c)

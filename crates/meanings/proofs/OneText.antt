@@ -22,7 +22,7 @@ use Rattle.texts.specs.Grammar.{Sum}
 use Rattle.texts.specs.XForms.{x-forms}
 use Rattle.texts.proofs.XLaws.{x-lawful}
 use Rattle.texts.proofs.Says.{tree-is}
-use Rattle.meanings.specs.EveryList.{Keeps, policy-of, text-relates}
+use Rattle.meanings.specs.AllCalls.{Keeps, policy-of, text-relates}
 use Rattle.policies.specs.Outcome.{refused, text-verdict, policy-step}
 use Rattle.policies.specs.declared.PolicyAnswer.{PolicyAnswer}
 use Rattle.policies.specs.declared.PolicyAnswer.the-variants.{Handle}

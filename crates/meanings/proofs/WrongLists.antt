@@ -16,8 +16,8 @@ use Rattle.nodes.proofs.Bools.{by-test, on-bits}
 use Rattle.nodes.proofs.Bounded.{fits-places-iff}
 use Rattle.store.specs.Calls.{Call, new-store, set-call, step}
 use Rattle.outcomes.specs.OnMemories.{set-places, rel-places, new-step}
-use Rattle.meanings.specs.Lists.{in-turn, plain-steps, Matches, Lasts, store-calls, after-new}
-use Rattle.meanings.specs.PlainStore.{Plain, plain-store, on-lists, plain-step, begun}
+use Rattle.meanings.specs.Lists.{in-turn, plain-steps, Matches, HandlesLast, store-calls, after-new}
+use Rattle.meanings.specs.PlainStore.{Plain, plain-store, asked, on-lists, plain-step, begun}
 use Rattle.judging.specs.Memory.{Memories, memories, decode}
 use Rattle.outcomes.specs.Outcome.{Verdict, runs, handle-of, provided, told, concludes}
 use Rattle.outcomes.specs.declared.Answer.{Answer}
@@ -56,11 +56,11 @@ unfolding step new-step concludes provided run new constant identity-at-depth ge
 accepted = refl
 
 sets-tested : plain-steps store-calls 2 3 tested (begun 1) .state .lists .sets ≡ (0 ∷ 0 ∷ []) ∷ (0 ∷ 1 ∷ []) ∷ []
-unfolding in-turn plain-step on-lists concludes provided run new constant identity-at-depth raise test get place having mk-store mk-handle
+unfolding in-turn plain-step asked on-lists concludes provided run new constant identity-at-depth raise test get place having mk-store mk-handle
 sets-tested = refl
 
 sets-renewed : plain-steps store-calls 2 3 (tested ++ renewed) (begun 1) .state .lists .sets ≡ (0 ∷ 0 ∷ []) ∷ []
-unfolding in-turn plain-step on-lists concludes provided run new constant identity-at-depth raise test get place having mk-store mk-handle
+unfolding in-turn plain-step asked on-lists concludes provided run new constant identity-at-depth raise test get place having mk-store mk-handle
 sets-renewed = refl
 
 held-then : (S : Store) → S .sets ≡ (0 ∷ 0 ∷ []) ∷ (0 ∷ 1 ∷ []) ∷ [] → Held set S 1 4
@@ -74,8 +74,8 @@ held-then S e = record {
 held-no-more : (S : Store) → S .sets ≡ (0 ∷ 0 ∷ []) ∷ [] → ¬ Held set S 1 4
 held-no-more S e A = let h = rw e at (A .there) in omega arith
 
-pub renewed-forgets : ¬ Lasts (decode (after-new store-calls 1 lent tested .state)) (decode (after-new store-calls 1 lent (tested ++ renewed) .state))
+pub renewed-forgets : ¬ HandlesLast (decode (after-new store-calls 1 lent tested .state)) (decode (after-new store-calls 1 lent (tested ++ renewed) .state))
 renewed-forgets L =
     let right = list-right 1 lent 4 accepted in
     held-no-more _ (ap (λ S. S .sets) (right (tested ++ renewed) .matches .lists) ∙ sets-renewed)
-    (L .held set 1 4 (held-then _ (ap (λ S. S .sets) (right tested .matches .lists) ∙ sets-tested)))
+    (L set 1 4 (held-then _ (ap (λ S. S .sets) (right tested .matches .lists) ∙ sets-tested)) .held)

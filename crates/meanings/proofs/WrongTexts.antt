@@ -1,5 +1,5 @@
--- Wrong versions of the claims about texts, refuted by small lists of calls: from the theorem about every list.
-use mathlib.Core.Path.{_≡_, refl, sym, _∙_}
+-- Wrong versions of the claims about texts, refuted by small histories: from the theorem about every history.
+use mathlib.Core.Path.{_≡_, refl, sym, ap, _∙_, subst}
 use mathlib.Core.Logic.{inr}
 use mathlib.Core.List.{List, [], _∷_, _++_}
 use Prim.Native.Nat.{ℕ}
@@ -14,16 +14,20 @@ use Rattle.nodes.specs.Store.{get, place, having, mk-store, mk-handle}
 use Rattle.nodes.specs.Meaning.{Same}
 use Rattle.judging.specs.Memory.{Memories, memories}
 use Rattle.store.specs.Calls.{new-store, step}
-use Rattle.meanings.specs.Lists.{in-turn, each-call}
+use Rattle.meanings.specs.Lists.{in-turn}
 use Rattle.outcomes.specs.OnMemories.{new-step}
 use Rattle.outcomes.specs.Outcome.{provided, concludes}
 use Rattle.outcomes.specs.declared.Answer.the-variants as store
 use Rattle.texts.specs.XForms.{x-forms}
 use Rattle.texts.specs.Grammar.{Sum, a-zero, a-one, s-atom, p-one, u-one, u-plus}
-use Rattle.meanings.specs.EveryList.{AnyCall, policy, Keeps, answer-after, AcceptedIn, TextsRight}
+use Rattle.meanings.specs.AllCalls.{call, policy, answered, read, text-relates, Keeps}
+use Rattle.meanings.specs.EveryHistory.{AcceptedIn}
+use Rattle.meanings.specs.Histories.{Made, LentInTurn, NoneRenews, History}
+use Rattle.policies.specs.Outcome.{policy-step}
 use Rattle.policies.specs.declared.PolicyAnswer.the-variants.{Handle, Declined}
 use Rattle.policies.specs.declared.PolicyRefusal.{PolicyRefusal}
-use Rattle.meanings.proofs.EveryList.{every-list}
+use Rattle.meanings.proofs.EveryHistory.{every-history}
+use Rattle.meanings.proofs.Histories.{made}
 use Rattle.meanings.proofs.OneText.{tree-relates}
 use Rattle.meanings.proofs.KeptTexts.{not-handle}
 
@@ -56,28 +60,52 @@ one-keeps = record {
   rules = record { policy = skip; follows = u-one (p-one (s-atom a-one)); below = refl; negates-predicates = refl };
 }
 
--- a list of one text, on the store as `new` left it
-alone : (t : List ℕ) → TextsRight 1 lent (policy t ∷ [])
-unfolding each-call
-alone t = every-list 1 lent 4 accepted (policy t ∷ []) (tt, tt)
+-- a history of one text, on the store as `new` left it
+abbrev begun : Memories
+begun = step (new-store 1) lent .state
 
-zero-accepted : answer-after 1 lent [] zero-text ≡ Handle 2
+abbrev asked : List ℕ → Made
+asked t = made (policy t) begun []
+
+lent-to-it : (t : List ℕ) → LentInTurn begun (asked t ∷ [])
+unfolding LentInTurn
+lent-to-it t = (refl, tt)
+
+renews-not : (t : List ℕ) → NoneRenews (asked t ∷ [])
+unfolding NoneRenews
+renews-not t = (λ k a e q. absurd (let z : _≡_ {A = ℕ} 0 1 = cc e in omega arith), tt)
+
+abbrev alone : List ℕ → History
+alone t = record {
+  width = 1;
+  new = made (call (new-store 1)) lent [];
+  is-new = refl;
+  top = 4;
+  accepted = ap answered accepted;
+  calls = asked t ∷ [];
+  in-turn = lent-to-it t;
+  none-renews = renews-not t;
+}
+
+zero-accepted : asked zero-text .answer ≡ read (Handle 2)
 unfolding in-turn run new constant identity-at-depth get place having mk-store mk-handle policy-program zero-keeps
-zero-accepted = alone zero-text .refused zero-text [] [] refl zero-keeps
+zero-accepted = every-history (alone zero-text) .refused zero-text [] [] (asked zero-text) refl refl zero-keeps
 
-one-accepted : answer-after 1 lent [] one-text ≡ Handle 3
+one-accepted : asked one-text .answer ≡ read (Handle 3)
 unfolding in-turn run new constant identity-at-depth get place having mk-store mk-handle policy-program one-keeps
-one-accepted = alone one-text .refused one-text [] [] refl one-keeps
+one-accepted = every-history (alone one-text) .refused one-text [] [] (asked one-text) refl refl one-keeps
 
 -- EVERY TEXT REFUSED, or every text on the store as `new` left it
-pub not-all-refused : ¬ ((t : List ℕ) → (r : PolicyRefusal) × (answer-after 1 lent [] t ≡ Declined r))
-not-all-refused f = let r = f zero-text in not-handle (sym (r .1) ∙ zero-accepted)
+pub not-all-refused : ¬ ((t : List ℕ) → (r : PolicyRefusal) × (policy-step t begun .answer ≡ Declined r))
+not-all-refused f = let r = f zero-text in let e : policy-step zero-text begun .answer ≡ Handle 2 = cc zero-accepted in not-handle (sym (r .1) ∙ e)
 
 -- ONE HANDLE for all texts
-pub not-one-handle : (h : ℕ) → ¬ ((cs : List AnyCall) (t : List ℕ) (g : ℕ) → AcceptedIn 1 lent cs t g → g ≡ h)
+pub not-one-handle : (h : ℕ) → ¬ ((H : History) (t : List ℕ) (g : ℕ) → AcceptedIn (H .calls) t g → g ≡ h)
 not-one-handle h f =
-    let a = f (policy zero-text ∷ []) zero-text 2 (record { before = []; later = []; is = refl; handle = zero-accepted }) in
-    let b = f (policy one-text ∷ []) one-text 3 (record { before = []; later = []; is = refl; handle = one-accepted }) in
+    let a = f (alone zero-text) zero-text 2
+    (record { before = []; it = asked zero-text; later = []; is = refl; text = refl; handle = zero-accepted }) in
+    let b = f (alone one-text) one-text 3
+    (record { before = []; it = asked one-text; later = []; is = refl; text = refl; handle = one-accepted }) in
     omega arith
 
 -- THE FIRST PRODUCT ONLY: it loses the pairs of the others
@@ -102,11 +130,11 @@ sum-text = zero-text ++ (43 ∷ one-text)
 sum-follows : Sum x-forms 32 sum-text (plus fail skip)
 sum-follows = u-plus (u-one (p-one (s-atom a-zero))) (p-one (s-atom a-one))
 
-pub sum-is-another : (cs : List AnyCall) (D : TextsRight 1 lent cs) (g h : ℕ) → AcceptedIn 1 lent cs sum-text g → AcceptedIn 1 lent cs zero-text h
-    → ¬ (g ≡ h)
+pub sum-is-another : (H : History) → H .width ≡ 1 → (g h : ℕ) → AcceptedIn (H .calls) sum-text g → AcceptedIn (H .calls) zero-text h → ¬ (g ≡ h)
 unfolding meaning zero-keeps
-sum-is-another cs D g h A B e =
+sum-is-another H w g h A B e =
     let p : Packet 1 (0 ∷ []) = more 0 (omega arith) none in
-    let s = D .one-handle sum-text zero-text g h A B .0 e (0 ∷ []) (0 ∷ []) p p .0
-    (tree-relates 1 sum-text (plus fail skip) sum-follows (0 ∷ []) (0 ∷ []) p p .0 (inr refl)) in
+    let same : Same 1 (text-relates 1 sum-text) (text-relates 1 zero-text)
+    = subst (λ k. Same k (text-relates k sum-text) (text-relates k zero-text)) w (every-history H .one-handle sum-text zero-text g h A B .0 e) in
+    let s = same (0 ∷ []) (0 ∷ []) p p .0 (tree-relates 1 sum-text (plus fail skip) sum-follows (0 ∷ []) (0 ∷ []) p p .0 (inr refl)) in
     tree-relates 1 zero-text fail (zero-keeps .rules .follows) (0 ∷ []) (0 ∷ []) p p .1 s

@@ -1,4 +1,6 @@
 pub mod ReadMeanings
 pub mod PlainStore
 pub mod Lists
-pub mod EveryList
+pub mod AllCalls
+pub mod Histories
+pub mod EveryHistory

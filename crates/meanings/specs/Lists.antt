@@ -4,10 +4,10 @@ use mathlib.Core.List.{List, [], _∷_, _++_}
 use Prim.Native.Nat.{ℕ}
 use lib.ListN.{length}
 use Rattle.nodes.specs.Images.{blank, new}
-use Rattle.nodes.specs.Packets.{Digits, walk}
+use Rattle.nodes.specs.Meaning.{Lasts}
 use Rattle.nodes.specs.Programs.{run}
 use Rattle.nodes.specs.Store.{Kind, Store}
-use Rattle.nodes.specs.WellFormed.{Held, Extends}
+use Rattle.nodes.specs.WellFormed.{Held}
 use Rattle.judging.specs.Memory.{Memories, memory, fields, places-in, decode, encode}
 use Rattle.judging.specs.Valid.{IsStore}
 use Rattle.store.specs.Calls.{Call, new-store, step}
@@ -73,17 +73,14 @@ pub record Alike {A : Type 0} (M₀ : Memories) (t : Told A Memories) (u : Told 
   pub answer : t .answer ≡ u .answer
   pub matches : Matches M₀ (t .state) (u .state)
 
--- P′ has the number of fields of P, and its lists have the nodes of P's and perhaps more after them
-pub record Grown (P P′ : Plain) : Type 0 where
-  pub width : P′ .width ≡ P .width
-  pub lists : Extends (P .lists) (P′ .lists)
+-- each handle that is held in S lasts in S′
+abbrev pub HandlesLast : Store → Store → Type 0
+HandlesLast S S′ = (K : Kind) (l h : ℕ) → Held K S l h → Lasts K S S′ l h
 
--- nodes were only added: a handle held in S is held in S′ at its level, and its walks end as they did, so that
--- a set has the same packets and a relation the same pairs
-pub record Lasts (S S′ : Store) : Type 0 where
-  pub grown : Extends S S′
-  pub held : (K : Kind) (l h : ℕ) → Held K S l h → Held K S′ l h
-  pub walks : (K : Kind) (l h : ℕ) → Held K S l h → (ds : List ℕ) → Digits K l ds → walk K S′ h ds ≡ walk K S h ds
+-- P′ has the number of fields of P, and the handles of P last in it
+pub record GoesOnTo (P P′ : Plain) : Type 0 where
+  pub width : P′ .width ≡ P .width
+  pub handles : HandlesLast (P .lists) (P′ .lists)
 
 module _ {C A : Type 0} (Z : Calling C A) where
   abbrev pub steps : List C → Memories → Listed A Memories
@@ -99,7 +96,7 @@ module _ {C A : Type 0} (Z : Calling C A) where
   -- one call on memories M that match P, written over M₀
   pub record CallRight (M₀ M : Memories) (P : Plain) (c : C) : Type 0 where
     pub alike : Alike M₀ (Z .on-memories c M) (Z .on-plain (set-places M₀) (rel-places M₀) c P)
-    pub grown : Z .GoesOn c M → Grown P (Z .on-plain (set-places M₀) (rel-places M₀) c P .state)
+    pub goes-on : Z .GoesOn c M → GoesOnTo P (Z .on-plain (set-places M₀) (rel-places M₀) c P .state)
 
   -- a list of calls after `new k` on the memories M₀, and the same calls on the plain store
   module _ (k : ℕ) (M₀ : Memories) (cs : List C) where
@@ -115,7 +112,7 @@ module _ {C A : Type 0} (Z : Calling C A) where
     -- the same answers, one by one; the memories are a store with the same lists, and untouched where no place is
     pub answers : after-new k M₀ cs .answers ≡ beside-it k M₀ cs .answers
     pub matches : Matches M₀ (after-new k M₀ cs .state) (beside-it k M₀ cs .state)
-    -- in demand 3's lists the number of fields stays, and what was held after the first calls lasts to the end
+    -- in demand 3's lists the number of fields stays, and each handle that was held after the first calls lasts to the end
     pub width : AllGoOn cs (step (new-store k) M₀ .state) → fields (after-new k M₀ cs .state) ≡ k
     pub lasts : AllGoOn cs (step (new-store k) M₀ .state) → (before later : List C) → cs ≡ before ++ later
-        → Lasts (decode (after-new k M₀ before .state)) (decode (after-new k M₀ cs .state))
+        → HandlesLast (decode (after-new k M₀ before .state)) (decode (after-new k M₀ cs .state))

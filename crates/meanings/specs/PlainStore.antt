@@ -26,23 +26,43 @@ pub record Plain : Type 0 where
 abbrev pub plain-store : ℕ → Store → Plain
 plain-store k S = record { width = k; lists = S }
 
--- a call whose verdict is v, m places being there for sets and n for relations
-unfoldable pub on-lists : {A : Type 0} → (Refusal → A) → ℕ → ℕ → (ℕ → Store → Verdict A) → Plain → Told A Plain
-on-lists refuse m n v P = concludes (refuse UsedUp) m n (v (P .width) (P .lists)) (P .lists) P (plain-store (P .width))
+-- WHAT A CALL ASKS of the plain store: a verdict, the lists that its program runs on, and what takes the lists that this leaves
+pub record Asked (A : Type 0) : Type 0 where
+  pub verdict : Verdict A
+  pub lists : Store
+  pub taken : Store → Plain
 
--- 01: "It is fed the calls' arguments and both numbers of places, no answers"; "`new(k)` makes its 3k and k nodes .. on copies that begin empty"
-unfoldable pub plain-step : ℕ → ℕ → Call → Plain → Told Answer Plain
-plain-step m n (new-store k) P =
-    concludes (Declined UsedUp) m n (going Declined (provided OutOfRange (leb k 32) (Level k)) (λ k. runs (new k) handle-of)) blank P (plain-store k)
-plain-step m n (set-call c) P = on-lists Declined m n (set-verdict c) P
-plain-step m n (set-read c) P = on-lists Declined m n (set-read-verdict c) P
-plain-step m n (relation-call c) P = on-lists Declined m n (relation-verdict c) P
-plain-step m n (relation-read c) P = on-lists Declined m n (relation-read-verdict c) P
-plain-step m n (image-call c) P = on-lists Declined m n (image-verdict c) P
-plain-step m n (filter-call c) P = on-lists Declined m n (filter-verdict c) P
-plain-step m n (path-read c) P = on-lists Declined m n (path-verdict c) P
+-- a call whose verdict on a store is v
+abbrev pub asked-here : {A : Type 0} → (ℕ → Store → Verdict A) → Plain → Asked A
+asked-here v P = record { verdict = v (P .width) (P .lists); lists = P .lists; taken = plain-store (P .width) }
+
+-- 01: "`new(k)` makes its 3k and k nodes .. on copies that begin empty"
+unfoldable pub asked : Call → Plain → Asked Answer
+asked (new-store k) P =
+    record { verdict = going Declined (provided OutOfRange (leb k 32) (Level k)) (λ k. runs (new k) handle-of); lists = blank; taken = plain-store k }
+asked (set-call c) P = asked-here (set-verdict c) P
+asked (set-read c) P = asked-here (set-read-verdict c) P
+asked (relation-call c) P = asked-here (relation-verdict c) P
+asked (relation-read c) P = asked-here (relation-read-verdict c) P
+asked (image-call c) P = asked-here (image-verdict c) P
+asked (filter-call c) P = asked-here (filter-verdict c) P
+asked (path-read c) P = asked-here (path-verdict c) P
 
 -- 01: "A policy runs its text's operations, operands first, left before right"
+abbrev pub asked-policy : List ℕ → Plain → Asked PolicyAnswer
+asked-policy t P = asked-here (text-verdict t) P
+
+-- WHAT IT COMES TO, m places being there for sets and n for relations; 01: "Where a copy ends longer than its places, the call gets 6"
+abbrev pub within : {A : Type 0} → (Refusal → A) → ℕ → ℕ → Asked A → Plain → Told A Plain
+within refuse m n q P = concludes (refuse UsedUp) m n (q .verdict) (q .lists) P (q .taken)
+
+unfoldable pub on-lists : {A : Type 0} → (Refusal → A) → ℕ → ℕ → (ℕ → Store → Verdict A) → Plain → Told A Plain
+on-lists refuse m n v P = within refuse m n (asked-here v P) P
+
+-- 01: "It is fed the calls' arguments and both numbers of places, no answers"
+unfoldable pub plain-step : ℕ → ℕ → Call → Plain → Told Answer Plain
+plain-step m n c P = within Declined m n (asked c P) P
+
 unfoldable pub plain-policy-step : ℕ → ℕ → List ℕ → Plain → Told PolicyAnswer Plain
 plain-policy-step m n t P = on-lists refused m n (text-verdict t) P
 

@@ -7,6 +7,7 @@ ghost use Rattle.nodes.specs.Store.{set, rel};
 ghost use Rattle.memory.specs.Arena.{arena, Performs};
 ghost use Rattle.judging.specs.Memory.{memories};
 ghost use Rattle.outcomes.specs.Outcome.{told};
+ghost use Rattle.outcomes.specs.Promise.{Meets};
 ghost use Rattle.outcomes.specs.OnMemories.{new-step};
 ghost use Rattle.judging.specs.Commit.{cleared};
 ghost use Rattle.new_store.specs.Creating.{set-constants, relation-constants, NewChecked, Begun, Created};
@@ -101,9 +102,8 @@ fn made(relations: &mut [u32], sets: &mut [u32], work: &mut [u32], k: u8) -> out
 
 // `SPPstore::new(k)`: the handle of the full relation, made last.
 pub fn new(relations: &mut [u32], sets: &mut [u32], work: &mut [u32], k: u32) -> outcomes::Answer
-    ensures { λ r. ⌜ (told r (memories (now (relations .exit)) (now (sets .exit)))
-        ≡ new-step k (memories (now (relations .entry)) (now (sets .entry))))
-        × (now (work .exit) ≡ replicate (length (now (work .entry))) 0) ⌝ }
+    ensures { λ r. ⌜ Meets (new-step k (memories (now (relations .entry)) (now (sets .entry))))
+        (memories (now (relations .exit)) (now (sets .exit))) (now (work .entry)) (now (work .exit)) r ⌝ }
 {
     nodes::clear(work);
     let check = check(relations.len(), sets.len(), k);

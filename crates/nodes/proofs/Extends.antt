@@ -4,6 +4,7 @@ use mathlib.Core.List.{List, [], _∷_, _++_, append-assoc}
 use Prim.Native.Nat.{ℕ, zero, suc, _%_, _<_}
 use native.Mathlib.Omega.{arith}
 use lib.ListN.{length, getD, length-append, List·getD-append}
+use Rattle.nodes.specs.Meaning.{Lasts}
 use Rattle.nodes.specs.Packets.{Digits, none, more, walk}
 use Rattle.nodes.specs.Store.{Kind, Nodes, Store, nodes, index, with-sign, get, child}
 use Rattle.nodes.specs.WellFormed.{Held, Fits, Extends}
@@ -44,6 +45,10 @@ module _ {S S′ : Store} (E : Extends S S′) where
   ext-walk h A none = refl
   ext-walk {K} h A (more {ds = ds} d i D) = rw (ext-get K h (A .there)) (ext-walk (child K S h d) (A .below d i) D)
 
+  -- so every handle lasts
+  pub ext-lasts : {K : Kind} {l h : ℕ} → Held K S l h → Lasts K S S′ l h
+  ext-lasts {K} {l} {h} A = record { held = ext-held K l h A; walks = λ ds D. ext-walk h A D }
+
   -- an old node still fits
   pub ext-fits : {k : ℕ} {K : Kind} {i : ℕ} {x : List ℕ} → Fits k K S i x → Fits k K S′ i x
   ext-fits {K = K} f = record {
@@ -54,3 +59,10 @@ module _ {S S′ : Store} (E : Extends S S′) where
     earlier = f .earlier;
     even = f .even;
   }
+
+-- a handle that lasts to a store and on from there
+pub lasts-same : {K : Kind} {S : Store} {l h : ℕ} → Held K S l h → Lasts K S S l h
+lasts-same A = record { held = A; walks = λ ds D. refl }
+
+pub lasts-then : {K : Kind} {S S′ S″ : Store} {l h : ℕ} → Lasts K S S′ l h → Lasts K S′ S″ l h → Lasts K S S″ l h
+lasts-then f g = record { held = g .held; walks = λ ds D. g .walks ds D ∙ f .walks ds D }

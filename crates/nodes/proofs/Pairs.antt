@@ -7,7 +7,7 @@ use Prim.Native.Nat.{ℕ, suc, _+_, _*_, _/_, _%_, _<_, _≤_}
 use native.Mathlib.Omega.{arith}
 use lib.ListN.{getD}
 use lib.Dec.{eqb, T, eqb→eq, eqb-refl}
-use Rattle.nodes.specs.Meaning.{Sem, Rel, Den, Relates, Same, Some}
+use Rattle.nodes.specs.Meaning.{Sem, Rel, Den, Relates, Lasts, Same, Some}
 use Rattle.nodes.specs.Operations.{zero-at-depth, top-at-depth, union}
 use Rattle.nodes.specs.Packets.{Digits, none, more, Packet, digits, relates}
 use Rattle.nodes.specs.Programs.{isIdentity, ending, mk}
@@ -17,7 +17,7 @@ use Rattle.nodes.specs.WellFormed.{Held, WellFormed, Extends}
 use Rattle.nodes.proofs.Bools.{on-digits}
 use Rattle.nodes.proofs.Canonical.{canonical↔}
 use Rattle.nodes.proofs.Constants.{zero-does, full-does}
-use Rattle.nodes.proofs.Extends.{ext-held, ext-walk}
+use Rattle.nodes.proofs.Extends.{ext-lasts}
 use Rattle.nodes.proofs.Pointwise.{union-does}
 use Rattle.nodes.proofs.Rules.{Kept, Does, den-iff, Node, post-does, mk-does}
 use Rattle.nodes.proofs.Tests.{empty, full, ident, den-agrees, den-empty, den-full, den-some}
@@ -82,11 +82,11 @@ module _ {l : ℕ} {R : Rel} {S : Store} {h : ℕ} where
 pub relates-iff : {l : ℕ} {R R′ : Rel} {S : Store} {h : ℕ} → Same l R R′ → Relates l R S h → Relates l R′ S h
 relates-iff e A = record { held = A .held; means = λ p q P Q. Iff·trans (A .means p q P Q) (e p q P Q) }
 
+pub relates-lasts : {l : ℕ} {R : Rel} {S S′ : Store} {h : ℕ} → Lasts rel S S′ l h → Relates l R S h → Relates l R S′ h
+relates-lasts L A = record { held = L .held; means = λ p q P Q. rw (L .walks _ (digits-of P Q)) (A .means p q P Q) }
+
 pub relates-ext : {l : ℕ} {R : Rel} {S S′ : Store} {h : ℕ} → Extends S S′ → Relates l R S h → Relates l R S′ h
-relates-ext {l} {h = h} E A = record {
-  held = ext-held E rel l h (A .held);
-  means = λ p q P Q. rw (ext-walk E h (A .held) (digits-of P Q)) (A .means p q P Q);
-}
+relates-ext E A = relates-lasts (ext-lasts E (A .held)) A
 
 pub relates-kept : (l : ℕ) (R : Rel) → Kept (Relates l R)
 relates-kept l R S S′ h E A = relates-ext E A

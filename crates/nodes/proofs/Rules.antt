@@ -8,14 +8,14 @@ use Prim.Native.Nat.{ℕ, zero, suc, _<_}
 use native.Mathlib.Omega.{arith}
 use lib.ListN.{length, getD}
 use lib.Dec.{T}
-use Rattle.nodes.specs.Meaning.{Sem, Den}
+use Rattle.nodes.specs.Meaning.{Sem, Den, Lasts}
 use Rattle.nodes.specs.Packets.{Digits, more, walk}
 use Rattle.nodes.specs.Programs.{Test, holds, Prog, ret, ask, look, mk, bind, Ran, run}
 use Rattle.nodes.specs.Recursion.{for, four}
 use Rattle.nodes.specs.Safety.{Within, Sure, Safe}
 use Rattle.nodes.specs.Store.{Kind, arity, Store, pick, get, child, mk-store, mk-handle}
 use Rattle.nodes.specs.WellFormed.{Held, WellFormed, Extends}
-use Rattle.nodes.proofs.Extends.{ext-refl, ext-trans, ext-held, ext-walk}
+use Rattle.nodes.proofs.Extends.{ext-refl, ext-trans, ext-lasts}
 use Rattle.nodes.proofs.Mk.{mk-ext, mk-held, mk-formed, mk-walk}
 
 pub record After (k : ℕ) (S : Store) (Q : Store → ℕ → Type 0) (R : Ran) : Type 0 where
@@ -32,11 +32,12 @@ pub record Does (k : ℕ) (S : Store) (p : Prog) (Q : Store → ℕ → Type 0) 
   pub safe : Safe p S
   pub after : After k S Q (run p S)
 
+-- a handle that lasts keeps its meaning
+pub den-lasts : {K : Kind} {l : ℕ} {φ : Sem} {S S′ : Store} {h : ℕ} → Lasts K S S′ l h → Den K l φ S h → Den K l φ S′ h
+den-lasts L A = record { held = L .held; means = λ ds D. rw (L .walks ds D) (A .means ds D) }
+
 pub den-ext : {K : Kind} {l : ℕ} {φ : Sem} {S S′ : Store} {h : ℕ} → Extends S S′ → Den K l φ S h → Den K l φ S′ h
-den-ext {K} {l} {h = h} E A = record {
-  held = ext-held E K l h (A .held);
-  means = λ ds D. rw (ext-walk E h (A .held) D) (A .means ds D);
-}
+den-ext E A = den-lasts (ext-lasts E (A .held)) A
 
 pub den-iff : {K : Kind} {l : ℕ} {φ ψ : Sem} {S : Store} {h : ℕ} → ((ds : List ℕ) → Digits K l ds → φ ds ↔ ψ ds) → Den K l φ S h → Den K l ψ S h
 den-iff e A = record { held = A .held; means = λ ds D. (λ w. e ds D .0 (A .means ds D .0 w), λ p. A .means ds D .1 (e ds D .1 p)) }

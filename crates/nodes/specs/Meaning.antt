@@ -26,6 +26,12 @@ pub record Relates (l : ℕ) (R : Rel) (S : Store) (h : ℕ) : Type 0 where
   pub held : Held rel S l h
   pub means : (p q : List ℕ) → Packet l p → Packet l q → relates S h p q ↔ R p q
 
+-- the handle h of kind K, held at level l in S, lasts in S′: it is held there at that level and its walks end as they did,
+-- so that a set has the same packets and a relation the same pairs
+pub record Lasts (K : Kind) (S S′ : Store) (l h : ℕ) : Type 0 where
+  pub held : Held K S′ l h
+  pub walks : (ds : List ℕ) → Digits K l ds → walk K S′ h ds ≡ walk K S h ds
+
 -- R and R′ relate the same packets of l fields
 abbrev pub Same : ℕ → Rel → Rel → Type 0
 Same l R R′ = (p q : List ℕ) → Packet l p → Packet l q → R p q ↔ R′ p q

@@ -1,11 +1,11 @@
 // The public policy call: a NetKAT text read and built on two lent memories.
 ghost use mathlib.Core.Path.{_≡_};
 ghost use mathlib.Core.Bool.{true};
-ghost use lib.ListN.{length, replicate};
 ghost use Rattle.nodes.specs.Store.{rel};
 ghost use Rattle.judging.specs.Memory.{memories, fields};
 ghost use Rattle.outcomes.specs.Checking.{Accepted};
 ghost use Rattle.outcomes.specs.Outcome.{told};
+ghost use Rattle.outcomes.specs.Promise.{Meets};
 ghost use Rattle.texts.specs.XForms.{x-forms};
 ghost use Rattle.texts.specs.Reading.{reading};
 ghost use Rattle.texts.specs.declared.Reading.the-variants.{Policy};
@@ -93,9 +93,8 @@ fn judged(relations: &mut [u32], sets: &[u32], work: &mut [u32], text: &[u8]) ->
 
 // A policy on any numbers in both memories, and any bytes as its text.
 pub fn policy(relations: &mut [u32], sets: &[u32], work: &mut [u32], text: &[u8]) -> PolicyAnswer
-    ensures { λ r. ⌜ (told r (memories (now (relations .exit)) (now (sets .entry)))
-        ≡ policy-step (now (text .entry)) (memories (now (relations .entry)) (now (sets .entry))))
-        × (now (work .exit) ≡ replicate (length (now (work .entry))) 0) ⌝ }
+    ensures { λ r. ⌜ Meets (policy-step (now (text .entry)) (memories (now (relations .entry)) (now (sets .entry))))
+        (memories (now (relations .exit)) (now (sets .entry))) (now (work .entry)) (now (work .exit)) r ⌝ }
 {
     if !judging::is_store(relations, sets, work, false) {
         nodes::clear(work);

@@ -1,11 +1,11 @@
 // The calls that read sets and may add relations.
 ghost use mathlib.Core.Path.{_≡_};
 ghost use Prim.Native.Nat.{ℕ};
-ghost use lib.ListN.{length, replicate};
 ghost use Rattle.nodes.specs.Store.{set, rel};
 ghost use Rattle.memory.specs.Arena.{PerformsOn, Beside};
 ghost use Rattle.judging.specs.Memory.{memories};
 ghost use Rattle.outcomes.specs.Outcome.{told};
+ghost use Rattle.outcomes.specs.Promise.{Meets};
 ghost use Rattle.store.specs.Calls.{filter-call, step};
 ghost use Rattle.store.specs.ImageCalls.{filter-declines, filter-program};
 ghost use Rattle.outcomes.specs.Checking.{Checks, Accepted};
@@ -90,9 +90,8 @@ pub fn filter_call(
     work: &mut [u32],
     call: FilterCall,
 ) -> outcomes::Answer
-    ensures { λ r. ⌜ (told r (memories (now (relations .exit)) (now (sets .entry)))
-        ≡ step (filter-call call) (memories (now (relations .entry)) (now (sets .entry))))
-        × (now (work .exit) ≡ replicate (length (now (work .entry))) 0) ⌝ }
+    ensures { λ r. ⌜ Meets (step (filter-call call) (memories (now (relations .entry)) (now (sets .entry))))
+        (memories (now (relations .exit)) (now (sets .entry))) (now (work .entry)) (now (work .exit)) r ⌝ }
 {
     if !judging::is_store(relations, sets, work, false) {
         nodes::clear(work);

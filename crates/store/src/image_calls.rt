@@ -1,11 +1,11 @@
 // The calls that read relations and may add sets.
 ghost use mathlib.Core.Path.{_≡_};
 ghost use Prim.Native.Nat.{ℕ};
-ghost use lib.ListN.{length, replicate};
 ghost use Rattle.nodes.specs.Store.{set};
 ghost use Rattle.memory.specs.Arena.{PerformsOn, Beside};
 ghost use Rattle.judging.specs.Memory.{memories};
 ghost use Rattle.outcomes.specs.Outcome.{told};
+ghost use Rattle.outcomes.specs.Promise.{Meets};
 ghost use Rattle.store.specs.Calls.{image-call, step};
 ghost use Rattle.store.specs.ImageCalls.{image-declines, image-program};
 ghost use Rattle.outcomes.specs.Checking.{ChecksBoth, Accepted};
@@ -100,9 +100,8 @@ pub fn image_call(
     work: &mut [u32],
     call: ImageCall,
 ) -> outcomes::Answer
-    ensures { λ r. ⌜ (told r (memories (now (relations .entry)) (now (sets .exit)))
-        ≡ step (image-call call) (memories (now (relations .entry)) (now (sets .entry))))
-        × (now (work .exit) ≡ replicate (length (now (work .entry))) 0) ⌝ }
+    ensures { λ r. ⌜ Meets (step (image-call call) (memories (now (relations .entry)) (now (sets .entry))))
+        (memories (now (relations .entry)) (now (sets .exit))) (now (work .entry)) (now (work .exit)) r ⌝ }
 {
     if !judging::is_store(relations, sets, work, true) {
         nodes::clear(work);

@@ -1,11 +1,11 @@
 // The calls on relations and sets that add nothing.
 ghost use mathlib.Core.Path.{_≡_};
 ghost use Prim.Native.Nat.{ℕ};
-ghost use lib.ListN.{length, replicate};
 ghost use Rattle.nodes.specs.Store.{set};
 ghost use Rattle.memory.specs.Arena.{Beside};
 ghost use Rattle.judging.specs.Memory.{memories};
 ghost use Rattle.outcomes.specs.Outcome.{told};
+ghost use Rattle.outcomes.specs.Promise.{Meets};
 ghost use Rattle.store.specs.Calls.{path-read, step};
 ghost use Rattle.store.specs.ImageCalls.{path-declines, path-answer};
 ghost use Rattle.store.specs.ImageChecking.{PathSafe};
@@ -93,9 +93,8 @@ pub fn path_read(
     work: &mut [u32],
     call: PathRead,
 ) -> outcomes::Answer
-    ensures { λ r. ⌜ (told r (memories (now (relations .entry)) (now (sets .entry)))
-        ≡ step (path-read call) (memories (now (relations .entry)) (now (sets .entry))))
-        × (now (work .exit) ≡ replicate (length (now (work .entry))) 0) ⌝ }
+    ensures { λ r. ⌜ Meets (step (path-read call) (memories (now (relations .entry)) (now (sets .entry))))
+        (memories (now (relations .entry)) (now (sets .entry))) (now (work .entry)) (now (work .exit)) r ⌝ }
 {
     if !judging::is_store(relations, sets, work, true) {
         nodes::clear(work);

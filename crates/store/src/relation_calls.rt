@@ -1,10 +1,10 @@
 // The calls that may add relations.
 ghost use mathlib.Core.Path.{_≡_};
-ghost use lib.ListN.{length, replicate};
 ghost use Rattle.nodes.specs.Store.{rel};
 ghost use Rattle.memory.specs.Arena.{Performs};
 ghost use Rattle.judging.specs.Memory.{memories};
 ghost use Rattle.outcomes.specs.Outcome.{told};
+ghost use Rattle.outcomes.specs.Promise.{Meets};
 ghost use Rattle.store.specs.Calls.{relation-call, step};
 ghost use Rattle.store.specs.RelationCalls.{relation-declines, relation-program};
 ghost use Rattle.outcomes.specs.Checking.{Checks, Accepted};
@@ -143,9 +143,8 @@ pub fn relation_call(
     work: &mut [u32],
     call: RelationCall,
 ) -> outcomes::Answer
-    ensures { λ r. ⌜ (told r (memories (now (relations .exit)) (now (sets .entry)))
-        ≡ step (relation-call call) (memories (now (relations .entry)) (now (sets .entry))))
-        × (now (work .exit) ≡ replicate (length (now (work .entry))) 0) ⌝ }
+    ensures { λ r. ⌜ Meets (step (relation-call call) (memories (now (relations .entry)) (now (sets .entry))))
+        (memories (now (relations .exit)) (now (sets .entry))) (now (work .entry)) (now (work .exit)) r ⌝ }
 {
     if !judging::is_store(relations, sets, work, false) {
         nodes::clear(work);

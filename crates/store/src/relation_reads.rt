@@ -1,10 +1,10 @@
 // The calls on relations that add nothing.
 ghost use mathlib.Core.Path.{_≡_};
 ghost use Prim.Native.Nat.{ℕ, _^_, _<_, _≤_};
-ghost use lib.ListN.{length, replicate};
 ghost use Rattle.nodes.specs.Store.{rel};
 ghost use Rattle.judging.specs.Memory.{memories};
 ghost use Rattle.outcomes.specs.Outcome.{told};
+ghost use Rattle.outcomes.specs.Promise.{Meets};
 ghost use Rattle.store.specs.Calls.{relation-read, step};
 ghost use Rattle.store.specs.RelationCalls.{relation-read-declines, relation-read-answer};
 ghost use Rattle.outcomes.specs.Checking.{Checks, Answered, Accepted};
@@ -112,9 +112,8 @@ pub fn relation_read(
     work: &mut [u32],
     call: RelationRead,
 ) -> outcomes::Answer
-    ensures { λ r. ⌜ (told r (memories (now (relations .entry)) (now (sets .entry)))
-        ≡ step (relation-read call) (memories (now (relations .entry)) (now (sets .entry))))
-        × (now (work .exit) ≡ replicate (length (now (work .entry))) 0) ⌝ }
+    ensures { λ r. ⌜ Meets (step (relation-read call) (memories (now (relations .entry)) (now (sets .entry))))
+        (memories (now (relations .entry)) (now (sets .entry))) (now (work .entry)) (now (work .exit)) r ⌝ }
 {
     if !judging::is_store(relations, sets, work, false) {
         nodes::clear(work);

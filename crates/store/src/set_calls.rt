@@ -1,10 +1,10 @@
 // The calls that may add sets.
 ghost use mathlib.Core.Path.{_≡_};
-ghost use lib.ListN.{length, replicate};
 ghost use Rattle.nodes.specs.Store.{set};
 ghost use Rattle.memory.specs.Arena.{Performs};
 ghost use Rattle.judging.specs.Memory.{memories};
 ghost use Rattle.outcomes.specs.Outcome.{told};
+ghost use Rattle.outcomes.specs.Promise.{Meets};
 ghost use Rattle.store.specs.Calls.{set-call, step};
 ghost use Rattle.store.specs.SetCalls.{set-declines, set-program};
 ghost use Rattle.outcomes.specs.Checking.{Checks, Accepted};
@@ -117,9 +117,8 @@ pub fn set_call(
     work: &mut [u32],
     call: SetCall,
 ) -> outcomes::Answer
-    ensures { λ r. ⌜ (told r (memories (now (relations .entry)) (now (sets .exit)))
-        ≡ step (set-call call) (memories (now (relations .entry)) (now (sets .entry))))
-        × (now (work .exit) ≡ replicate (length (now (work .entry))) 0) ⌝ }
+    ensures { λ r. ⌜ Meets (step (set-call call) (memories (now (relations .entry)) (now (sets .entry))))
+        (memories (now (relations .entry)) (now (sets .exit))) (now (work .entry)) (now (work .exit)) r ⌝ }
 {
     if !judging::is_store(relations, sets, work, true) {
         nodes::clear(work);

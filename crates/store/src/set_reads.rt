@@ -1,9 +1,9 @@
 // The calls on sets that add nothing.
 ghost use mathlib.Core.Path.{_≡_};
-ghost use lib.ListN.{length, replicate};
 ghost use Rattle.nodes.specs.Store.{set};
 ghost use Rattle.judging.specs.Memory.{memories};
 ghost use Rattle.outcomes.specs.Outcome.{told};
+ghost use Rattle.outcomes.specs.Promise.{Meets};
 ghost use Rattle.store.specs.Calls.{set-read, step};
 ghost use Rattle.store.specs.SetCalls.{set-read-declines, set-read-answer};
 ghost use Rattle.outcomes.specs.Checking.{Checks, Answered, Accepted};
@@ -77,9 +77,8 @@ pub fn set_read(
     work: &mut [u32],
     call: SetRead,
 ) -> outcomes::Answer
-    ensures { λ r. ⌜ (told r (memories (now (relations .entry)) (now (sets .entry)))
-        ≡ step (set-read call) (memories (now (relations .entry)) (now (sets .entry))))
-        × (now (work .exit) ≡ replicate (length (now (work .entry))) 0) ⌝ }
+    ensures { λ r. ⌜ Meets (step (set-read call) (memories (now (relations .entry)) (now (sets .entry))))
+        (memories (now (relations .entry)) (now (sets .entry))) (now (work .entry)) (now (work .exit)) r ⌝ }
 {
     if !judging::is_store(relations, sets, work, true) {
         nodes::clear(work);

@@ -1,4 +1,5 @@
--- DEMAND 3: lists of all 43 calls from an accepted `new`, and what is claimed of the texts accepted in them; 01, "A list of calls, and its count".
+-- All 43 calls as one type, what each comes to on two memories and on the plain store, and what the text of a policy relates;
+-- 01, "A list of calls, and its count".
 use mathlib.Core.Path.{_≡_}
 use mathlib.Core.List.{List, _∷_, _++_}
 use mathlib.Core.Logic.{_↔_}
@@ -64,35 +65,3 @@ pub record Keeps (k : ℕ) (t : List ℕ) : Type 0 where
 -- the policy that such a text is of
 abbrev pub policy-of : {k : ℕ} {t : List ℕ} → Keeps k t → Policy
 policy-of r = r .rules .policy
-
--- a list of calls after `new k` on the memories M₀
-module _ (k : ℕ) (M₀ : Memories) where
-  -- the answer to the text t after the calls `before`
-  abbrev pub answer-after : List AnyCall → List ℕ → PolicyAnswer
-  answer-after before t = policy-step t (after-new all-calls k M₀ before .state) .answer
-
-  -- in the list the text t was called, and accepted with the handle h
-  pub record AcceptedIn (cs : List AnyCall) (t : List ℕ) (h : ℕ) : Type 0 where
-    pub before : List AnyCall
-    pub later : List AnyCall
-    pub is : cs ≡ before ++ (policy t ∷ later)
-    pub handle : answer-after before t ≡ Handle h
-
-  -- what the plain store makes of the policy x after the calls `before`
-  abbrev pub plain-run : List AnyCall → Policy → Ran
-  plain-run before x = run (policy-program k x) (beside-it all-calls k M₀ before .state .lists)
-
-  -- WHAT IS CLAIMED of it
-  pub record TextsRight (cs : List AnyCall) : Type 0 where
-    -- the answers are the plain store's, and the memories hold its lists
-    pub list : ListRight all-calls k M₀ cs
-    -- the handle of an accepted text relates, after the list, exactly the text's pairs; only a text that keeps the rules is accepted
-    pub relates : (t : List ℕ) (h : ℕ) → AcceptedIn cs t h → Relates k (text-relates k t) (decode (after-new all-calls k M₀ cs .state)) h
-    pub keeps : (t : List ℕ) (h : ℕ) → AcceptedIn cs t h → Keeps k t
-    -- two accepted texts have one handle exactly when they relate the same pairs
-    pub one-handle : (t u : List ℕ) (g h : ℕ) → AcceptedIn cs t g → AcceptedIn cs u h → (g ≡ h) ↔ Same k (text-relates k t) (text-relates k u)
-    -- a text that keeps the rules is refused exactly when the plain store ends longer than the places, and then with 6;
-    -- else it has the handle that the plain store gives it
-    pub refused : (t : List ℕ) (before later : List AnyCall) → cs ≡ before ++ (policy t ∷ later) → (r : Keeps k t)
-        → answer-after before t ≡ pick (fits-places (set-places M₀) (rel-places M₀) (plain-run before (policy-of r) .store))
-        (Handle (plain-run before (policy-of r) .value)) (Declined (Store UsedUp))

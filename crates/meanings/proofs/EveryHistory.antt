@@ -1,0 +1,174 @@
+-- DEMAND 3: the theorem about every history, from the theorem about one text and the theorem about lists of steps.
+use mathlib.Core.Path.{_≡_, refl, sym, ap, _∙_, subst, subst₂}
+use mathlib.Core.List.{List, [], _∷_, _++_, append-assoc, map-append}
+use Prim.Native.Nat.{ℕ}
+use Rattle.nodes.specs.Meaning.{Relates}
+use Rattle.nodes.specs.Places.{fits-places}
+use Rattle.nodes.specs.Policies.{policy-program}
+use Rattle.nodes.specs.Programs.{run}
+use Rattle.nodes.specs.Store.{Store as Nodes, pick}
+use Rattle.nodes.specs.WellFormed.{WellFormed}
+use Rattle.nodes.proofs.Bools.{by-test}
+use Rattle.nodes.proofs.Pairs.{relates-lasts}
+use Rattle.nodes.proofs.Policies.{one-handle↔}
+use Rattle.judging.specs.Memory.{Memories, fields, decode}
+use Rattle.store.specs.Calls.{new-store, step}
+use Rattle.outcomes.specs.OnMemories.{set-places, rel-places}
+use Rattle.outcomes.specs.Outcome.{told, retold, concludes}
+use Rattle.outcomes.specs.declared.Answer.the-variants as store
+use Rattle.outcomes.specs.declared.Refusal.the-variants.{UsedUp}
+use Rattle.policies.specs.Outcome.{refused, text-verdict, policy-step}
+use Rattle.policies.specs.declared.PolicyAnswer.the-variants.{Handle, Declined}
+use Rattle.policies.specs.declared.PolicyRefusal.the-variants.{Store}
+use Rattle.meanings.specs.AllCalls.{AnyCall, call, policy, answered, read, any-step, all-calls, text-relates, Keeps, policy-of}
+use Rattle.meanings.specs.EveryHistory.{arguments, answers, AcceptedIn, lent, memories-after, as-steps, plain-after, plain-run, HistoryRight}
+use Rattle.meanings.specs.Histories.{Made, LentInTurn, left-after, NoneRenews, History}
+use Rattle.meanings.specs.Lists.{steps, AllGoOn, ListRight, Matches, HandlesLast}
+use Rattle.meanings.specs.PlainStore.{plain-store, on-lists, plain-policy-step}
+use Rattle.meanings.proofs.AllCalls.{policy-alike, any-right}
+use Rattle.meanings.proofs.Histories.{comes-to, made-answers, made-end, made-goes-on, left-parted, lent-before, lent-later, none-before}
+use Rattle.meanings.proofs.KeptTexts.{kept-builds}
+use Rattle.meanings.proofs.Lists.{lists-right}
+use Rattle.meanings.proofs.OneText.{TextRight, text-right}
+
+-- the answer of a policy that is built
+built-answer : {X : Type 0} (m n k : ℕ) (t : List ℕ) (r : Keeps k t) (S : Nodes) (x : X) (put : Nodes → X)
+    → (let R = run (policy-program k (policy-of r)) S in
+    concludes (refused UsedUp) m n (text-verdict t k S) S x put .answer ≡ pick (fits-places m n (R .store)) (Handle (R .value)) (Declined (Store UsedUp)))
+unfolding concludes
+built-answer m n k t r S x put = let R = run (policy-program k (policy-of r)) S in
+    ap (λ v. concludes (refused UsedUp) m n v S x put .answer) (kept-builds k t S r)
+    ∙ by-test (λ b. pick b (told (Handle (R .value)) (put (R .store))) (told (Declined (Store UsedUp)) x) .answer
+    ≡ pick b (Handle (R .value)) (Declined (Store UsedUp)))
+    (fits-places m n (R .store)) (λ _. refl) (λ _. refl)
+
+module _ (H : History) where
+  abbrev k : ℕ
+  k = H .width
+
+  abbrev M₀ : Memories
+  M₀ = H .new .before
+
+  abbrev M : Memories
+  M = H .new .after
+
+  -- `new` as a step
+  new-comes : told (answered (store.Handle (H .top))) M ≡ retold answered (step (new-store k) M₀)
+  unfolding any-step
+  new-comes = (λ i. told (sym (H .accepted) i) M) ∙ comes-to (H .new .promised) ∙ ap (λ x. any-step x M₀) (H .is-new)
+
+  new-answer : step (new-store k) M₀ .answer ≡ store.Handle (H .top)
+  new-answer = let e = ap (λ t. t .answer) new-comes in sym (cc e)
+
+  new-state : step (new-store k) M₀ .state ≡ M
+  new-state = sym (ap (λ t. t .state) new-comes)
+
+  right : (cs : List AnyCall) → ListRight all-calls k M₀ cs
+  right = lists-right all-calls (λ M₀ M P A c. any-right A c) k M₀ (H .top) new-answer
+
+  -- THE FIRST CALLS of the history
+  module _ (cs : List Made) (h : LentInTurn M cs) where
+    answers-stepped : answers cs ≡ as-steps H cs .answers
+    answers-stepped = made-answers cs M h ∙ ap (λ X. steps all-calls (arguments cs) X .answers) (sym new-state)
+
+    end-stepped : memories-after H cs ≡ as-steps H cs .state
+    end-stepped = made-end cs M h ∙ ap (λ X. steps all-calls (arguments cs) X .state) (sym new-state)
+
+    module _ (n : NoneRenews cs) where
+      go : AllGoOn all-calls (arguments cs) (step (new-store k) M₀ .state)
+      go = subst (AllGoOn all-calls (arguments cs)) (sym new-state) (made-goes-on cs M h n)
+
+      width-after : fields (memories-after H cs) ≡ k
+      width-after = ap fields end-stepped ∙ right (arguments cs) .width go
+
+  abbrev end : Nodes
+  end = decode (memories-after H (H .calls))
+
+  -- IN TWO PARTS
+  module _ (before later : List Made) (is : H .calls ≡ before ++ later) where
+    lent-first : LentInTurn M before
+    lent-first = lent-before before later M (subst (LentInTurn M) is (H .in-turn))
+
+    lent-rest : LentInTurn (memories-after H before) later
+    lent-rest = lent-later before later M (subst (LentInTurn M) is (H .in-turn))
+
+    none-first : NoneRenews before
+    none-first = none-before before later (subst NoneRenews is (H .none-renews))
+
+    lasts-parted : HandlesLast (decode (memories-after H before)) end
+    lasts-parted = subst₂ (λ X Y. HandlesLast (decode X) (decode Y)) (sym (end-stepped before lent-first)) (sym (end-stepped (H .calls) (H .in-turn)))
+        (right (arguments (H .calls)) .lasts (go (H .calls) (H .in-turn) (H .none-renews)) (arguments before) (arguments later)
+        (ap arguments is ∙ map-append (λ c. c .what) before later))
+
+  -- A TEXT in the history
+  module _ (t : List ℕ) (before later : List Made) (it : Made) (is : H .calls ≡ before ++ (it ∷ later)) (text : it .what ≡ policy t) where
+    lent-it : it .before ≡ memories-after H before
+    unfolding LentInTurn
+    lent-it = lent-rest before (it ∷ later) is .0
+
+    it-comes : told (it .answer) (it .after) ≡ retold read (policy-step t (it .before))
+    unfolding any-step
+    it-comes = comes-to (it .promised) ∙ ap (λ x. any-step x (it .before)) text
+
+    width-it : fields (it .before) ≡ k
+    width-it = ap fields lent-it ∙ width-after before (lent-first before (it ∷ later) is) (none-first before (it ∷ later) is)
+
+    -- what it leaves lasts to the end
+    lasts-it : HandlesLast (decode (it .after)) end
+    unfolding left-after
+    lasts-it = subst (λ X. HandlesLast (decode X) end) (left-parted before (it ∷ []) M)
+        (lasts-parted (before ++ (it ∷ [])) later (is ∙ sym (append-assoc before (it ∷ []) later)))
+
+    right-it : (h : ℕ) → it .answer ≡ read (Handle h) → TextRight t (it .before) h
+    right-it h e = let q = sym (ap (λ u. u .answer) it-comes) ∙ e in text-right t (it .before) h (cc q)
+
+    relates-it : (h : ℕ) → it .answer ≡ read (Handle h) → Relates k (text-relates k t) end h
+    relates-it h e =
+        let R : Relates k (text-relates k t) (decode (it .after)) h
+        = subst₂ (λ j X. Relates j (text-relates j t) (decode X) h) width-it (sym (ap (λ u. u .state) it-comes)) (right-it h e .relates) in
+        relates-lasts (lasts-it _ _ _ (R .held)) R
+
+    answered-it : (r : Keeps k t)
+        → it .answer ≡ read (pick (fits-places (set-places M₀) (rel-places M₀) (plain-run H before (policy-of r) .store))
+        (Handle (plain-run H before (policy-of r) .value)) (Declined (Store UsedUp)))
+    unfolding plain-policy-step on-lists
+    answered-it r =
+        let A = right (arguments before) .matches in
+        let P = plain-after H before .state in
+        let m = set-places M₀ in
+        let n = rel-places M₀ in
+        let there = end-stepped before (lent-first before (it ∷ later) is) in
+        let width = sym (A .width) ∙ ap fields (sym there) ∙ width-after before (lent-first before (it ∷ later) is) (none-first before (it ∷ later) is) in
+        ap (λ u. u .answer) it-comes ∙ ap (λ X. read (policy-step t X .answer)) (lent-it ∙ there)
+        ∙ ap read (policy-alike A t .answer
+        ∙ ap (λ j. concludes (refused UsedUp) m n (text-verdict t j (P .lists)) (P .lists) P (plain-store (P .width)) .answer) width
+        ∙ built-answer m n k t r (P .lists) P (plain-store (P .width)))
+
+  abbrev Accepted : List ℕ → ℕ → Type 0
+  Accepted t h = AcceptedIn (H .calls) t h
+
+  relates-end : (t : List ℕ) (h : ℕ) → Accepted t h → Relates k (text-relates k t) end h
+  relates-end t h A = relates-it t (A .before) (A .later) (A .it) (A .is) (A .text) h (A .handle)
+
+  keeps-rules : (t : List ℕ) (h : ℕ) → Accepted t h → Keeps k t
+  keeps-rules t h A = subst (λ j. Keeps j t) (width-it t (A .before) (A .later) (A .it) (A .is) (A .text))
+      (right-it t (A .before) (A .later) (A .it) (A .is) (A .text) h (A .handle) .keeps)
+
+  formed : WellFormed k end
+  formed = subst₂ (λ j X. WellFormed j (decode X)) (right (arguments (H .calls)) .width (go (H .calls) (H .in-turn) (H .none-renews)))
+      (sym (end-stepped (H .calls) (H .in-turn))) (right (arguments (H .calls)) .matches .store .formed)
+
+  -- THE THEOREM
+  pub every-history : HistoryRight H
+  every-history = record {
+    steps-answers = answers-stepped (H .calls) (H .in-turn);
+    steps-end = end-stepped (H .calls) (H .in-turn);
+    plain-answers = answers-stepped (H .calls) (H .in-turn) ∙ right (arguments (H .calls)) .answers;
+    matches = subst (λ X. Matches M₀ X (plain-after H (H .calls) .state)) (sym (end-stepped (H .calls) (H .in-turn))) (right (arguments (H .calls)) .matches);
+    width = width-after (H .calls) (H .in-turn) (H .none-renews);
+    lasts = lasts-parted;
+    relates = relates-end;
+    keeps = keeps-rules;
+    one-handle = λ t u g h A B. one-handle↔ g h formed (relates-end t g A) (relates-end u h B);
+    refused = answered-it;
+  }
