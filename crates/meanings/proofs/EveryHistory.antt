@@ -20,10 +20,10 @@ use Rattle.outcomes.specs.declared.Refusal.the-variants.{UsedUp}
 use Rattle.policies.specs.Outcome.{refused, text-verdict, policy-step}
 use Rattle.policies.specs.declared.PolicyAnswer.the-variants.{Handle, Declined}
 use Rattle.policies.specs.declared.PolicyRefusal.the-variants.{Store}
-use Rattle.meanings.specs.AllCalls.{AnyCall, call, policy, answered, read, any-step, all-calls, text-relates, Keeps, policy-of}
+use Rattle.meanings.specs.AllCalls.{AnyCall, policy, answered, read, any-step, all-calls, text-relates, Keeps, policy-of}
 use Rattle.meanings.specs.EveryHistory.{arguments, answers, AcceptedIn, lent, memories-after, as-steps, plain-after, plain-run, HistoryRight}
 use Rattle.meanings.specs.Histories.{Made, LentInTurn, left-after, NoneRenews, History}
-use Rattle.meanings.specs.Lists.{steps, AllGoOn, ListRight, Matches, HandlesLast}
+use Rattle.meanings.specs.Lists.{steps, AllGoOn, ListRight, Matches, HandlesLast, after-new}
 use Rattle.meanings.specs.PlainStore.{plain-store, on-lists, plain-policy-step}
 use Rattle.meanings.proofs.AllCalls.{policy-alike, any-right}
 use Rattle.meanings.proofs.Histories.{comes-to, made-answers, made-end, made-goes-on, left-parted, lent-before, lent-later, none-before}
@@ -172,3 +172,13 @@ module _ (H : History) where
     one-handle = λ t u g h A B. one-handle↔ g h formed (relates-end t g A) (relates-end u h B);
     refused = answered-it;
   }
+
+-- so no answer, and nothing in the memories, depends on what the working memories held or how long they were: 01's demand 1, over the whole history
+pub by-arguments-alone : (H J : History) → H .width ≡ J .width → lent H ≡ lent J → arguments (H .calls) ≡ arguments (J .calls)
+    → (answers (H .calls) ≡ answers (J .calls)) × (memories-after H (H .calls) ≡ memories-after J (J .calls))
+by-arguments-alone H J w m a =
+    let e : after-new all-calls (H .width) (lent H) (arguments (H .calls)) ≡ after-new all-calls (J .width) (lent J) (arguments (J .calls))
+    = λ i. after-new all-calls (w i) (m i) (a i) in (
+      every-history H .steps-answers ∙ ap (λ l. l .answers) e ∙ sym (every-history J .steps-answers),
+      every-history H .steps-end ∙ ap (λ l. l .state) e ∙ sym (every-history J .steps-end),
+    )

@@ -1,6 +1,6 @@
 -- A history is a list of steps: what its calls answered and left is what `any-step` of each comes to on the memories before it. From the
 -- promises alone; nothing is known of the working memories.
-use mathlib.Core.Path.{_≡_, refl, sym, ap, _∙_, subst}
+use mathlib.Core.Path.{_≡_, refl, ap, _∙_, subst}
 use mathlib.Core.List.{List, [], _∷_, _++_}
 use Prim.Native.Nat.{ℕ}
 use Rattle.judging.specs.Memory.{Memories}

@@ -56,7 +56,7 @@ module _ {X : Type 0} (m n : ℕ) (S : Nodes) (x : X) (put : Nodes → X) (h : �
       (λ t e. absurd (not-handle e)) e
 
 -- the answer of a verdict that runs
-abbrev made-in : Verdict PolicyAnswer → Ran → PolicyAnswer
+abbrev pub made-in : {A : Type 0} → Verdict A → Ran → A
 made-in (gives a) R = a
 made-in (runs p f) R = f R
 

@@ -14,4 +14,5 @@ pub mod OneText
 pub mod AllCalls
 pub mod Histories
 pub mod EveryHistory
+pub mod AcceptedAlone
 pub mod WrongTexts

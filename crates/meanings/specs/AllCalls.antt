@@ -1,31 +1,21 @@
 -- All 43 calls as one type, what each comes to on two memories and on the plain store, and what the text of a policy relates;
 -- 01, "A list of calls, and its count".
-use mathlib.Core.Path.{_≡_}
-use mathlib.Core.List.{List, _∷_, _++_}
-use mathlib.Core.Logic.{_↔_}
+use mathlib.Core.List.{List}
 use Prim.Native.Nat.{ℕ, _≤_}
 use lib.ListN.{length}
-use Rattle.nodes.specs.Meaning.{Rel, Relates, Same}
-use Rattle.nodes.specs.Packets.{Packet}
-use Rattle.nodes.specs.Places.{fits-places}
-use Rattle.nodes.specs.Policies.{Policy, meaning, policy-program}
-use Rattle.nodes.specs.Programs.{Ran, run}
-use Rattle.nodes.specs.Store.{pick}
-use Rattle.judging.specs.Memory.{Memories, decode}
+use Rattle.nodes.specs.Meaning.{Rel}
+use Rattle.nodes.specs.Policies.{Policy, meaning}
+use Rattle.judging.specs.Memory.{Memories}
 use Rattle.store.specs.Calls.{Call, step}
-use Rattle.outcomes.specs.OnMemories.{set-places, rel-places}
-use Rattle.meanings.specs.Lists.{Calling, NewRefused, ListRight, after-new, beside-it}
+use Rattle.meanings.specs.Lists.{Calling, NewRefused}
 use Rattle.outcomes.specs.Outcome.{Told, retold}
 use Rattle.meanings.specs.PlainStore.{Plain, plain-step, plain-policy-step}
 use Rattle.outcomes.specs.declared.Answer.{Answer}
-use Rattle.outcomes.specs.declared.Refusal.the-variants.{UsedUp}
 use Rattle.texts.specs.XForms.{x-forms}
 use Rattle.texts.specs.Answers.{KeepsRules}
 use Rattle.texts.specs.Grammar.{Sum}
 use Rattle.policies.specs.Outcome.{policy-step}
 use Rattle.policies.specs.declared.PolicyAnswer.{PolicyAnswer}
-use Rattle.policies.specs.declared.PolicyAnswer.the-variants.{Handle, Declined}
-use Rattle.policies.specs.declared.PolicyRefusal.the-variants.{Store}
 
 -- ALL 43 CALLS: those of `store`, and policies of any bytes
 pub data AnyCall : Type 0 where

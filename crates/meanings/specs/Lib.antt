@@ -4,3 +4,4 @@ pub mod Lists
 pub mod AllCalls
 pub mod Histories
 pub mod EveryHistory
+pub mod AcceptedAlone

@@ -6,7 +6,6 @@ ghost use lib.ListN.{length, replicate, set as put};
 ghost use Rattle.nodes.specs.Store.{set, rel};
 ghost use Rattle.memory.specs.Arena.{arena, Performs};
 ghost use Rattle.judging.specs.Memory.{memories};
-ghost use Rattle.outcomes.specs.Outcome.{told};
 ghost use Rattle.outcomes.specs.Promise.{Meets};
 ghost use Rattle.outcomes.specs.OnMemories.{new-step};
 ghost use Rattle.judging.specs.Commit.{cleared};
