@@ -23,11 +23,12 @@ use Rattle.meanings.proofs.InTurn.{turn-parted, each-before}
 use Rattle.meanings.proofs.Lists.{lists-right}
 use Rattle.meanings.specs.EveryList.{AnyCall, policy, any-step, all-calls, text-relates, Keeps, policy-of}
 use Rattle.meanings.specs.EveryList.{answer-after, AcceptedIn, plain-run, TextsRight}
+use Rattle.meanings.specs.OneText.{TextRight}
 use Rattle.policies.specs.Outcome.{refused, text-verdict, policy-step}
 use Rattle.policies.specs.declared.PolicyAnswer.the-variants.{Handle, Declined}
 use Rattle.policies.specs.declared.PolicyRefusal.the-variants.{Store}
 use Rattle.meanings.proofs.AllCalls.{policy-alike, any-right}
-use Rattle.meanings.proofs.OneText.{TextRight, text-right}
+use Rattle.meanings.proofs.OneText.{text-right}
 use Rattle.meanings.proofs.KeptTexts.{kept-builds}
 
 -- the answer of a policy that is built

@@ -2,3 +2,4 @@ pub mod ReadMeanings
 pub mod PlainStore
 pub mod Lists
 pub mod EveryList
+pub mod OneText
