@@ -10,6 +10,7 @@ pub mod InTurn
 pub mod Lists
 pub mod WrongLists
 pub mod KeptTexts
+pub mod PlainText
 pub mod OneText
 pub mod AllCalls
 pub mod EveryList

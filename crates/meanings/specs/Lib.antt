@@ -3,3 +3,4 @@ pub mod PlainStore
 pub mod Lists
 pub mod EveryList
 pub mod OneText
+pub mod PlainText
