@@ -6,6 +6,7 @@ pub mod OneCall
 pub mod AnyStore
 pub mod Inverse
 pub mod NewMatches
+pub mod NewStore
 pub mod InTurn
 pub mod Lists
 pub mod WrongLists

@@ -4,3 +4,4 @@ pub mod Lists
 pub mod EveryList
 pub mod OneText
 pub mod PlainText
+pub mod NewStore
