@@ -16,3 +16,4 @@ pub mod OneText
 pub mod AllCalls
 pub mod EveryList
 pub mod WrongTexts
+pub mod Worked

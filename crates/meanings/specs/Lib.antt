@@ -5,3 +5,4 @@ pub mod EveryList
 pub mod OneText
 pub mod PlainText
 pub mod NewStore
+pub mod Worked
