@@ -23,13 +23,14 @@ use Rattle.policies.specs.declared.PolicyRefusal.the-variants.{Store}
 use Rattle.meanings.specs.AllCalls.{AnyCall, policy, answered, read, any-step, all-calls, text-relates, Keeps, policy-of}
 use Rattle.meanings.specs.EveryHistory.{arguments, answers, AcceptedIn, lent, memories-after, as-steps, plain-after, plain-run, HistoryRight}
 use Rattle.meanings.specs.Histories.{Made, LentInTurn, left-after, NoneRenews, History}
+use Rattle.meanings.specs.OneText.{TextRight}
 use Rattle.meanings.specs.Lists.{steps, AllGoOn, ListRight, Matches, HandlesLast, after-new}
 use Rattle.meanings.specs.PlainStore.{plain-store, on-lists, plain-policy-step}
 use Rattle.meanings.proofs.AllCalls.{policy-alike, any-right}
 use Rattle.meanings.proofs.Histories.{comes-to, made-answers, made-end, made-goes-on, left-parted, lent-before, lent-later, none-before}
 use Rattle.meanings.proofs.KeptTexts.{kept-builds}
 use Rattle.meanings.proofs.Lists.{lists-right}
-use Rattle.meanings.proofs.OneText.{TextRight, text-right}
+use Rattle.meanings.proofs.OneText.{text-right}
 
 -- the answer of a policy that is built
 built-answer : {X : Type 0} (m n k : ℕ) (t : List ℕ) (r : Keeps k t) (S : Nodes) (x : X) (put : Nodes → X)

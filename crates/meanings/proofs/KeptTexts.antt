@@ -31,7 +31,7 @@ pub not-handle : {r : PolicyRefusal} {h : ℕ} → Declined r ≡ Handle h → �
 not-handle e = let z : _≡_ {A = ℕ} 0 1 = cc e in omega arith
 
 -- A HANDLE is that of the program that was run, which fitted: no verdict of a text gives one
-abbrev NoHandle : Verdict PolicyAnswer → Type 0
+abbrev pub NoHandle : Verdict PolicyAnswer → Type 0
 NoHandle (gives (Handle h)) = ⊥
 NoHandle (gives (Declined r)) = Unit {0}
 NoHandle (runs p f) = Unit {0}

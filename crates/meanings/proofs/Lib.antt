@@ -6,13 +6,16 @@ pub mod OneCall
 pub mod AnyStore
 pub mod Inverse
 pub mod NewMatches
+pub mod NewStore
 pub mod InTurn
 pub mod Lists
 pub mod WrongLists
 pub mod KeptTexts
+pub mod PlainText
 pub mod OneText
 pub mod AllCalls
 pub mod Histories
 pub mod EveryHistory
 pub mod AcceptedAlone
 pub mod WrongTexts
+pub mod Worked

@@ -30,7 +30,7 @@ module _ {k : ℕ} {S : Store} {M₀ : Memories} (F : WellFormed k S) (p : Space
     written = refl;
   }
 
-encode-count : (K : Kind) (k : ℕ) (S : Store) (M : Memories) → count K (memory K (encode k S M)) ≡ length (nodes K S)
+pub encode-count : (K : Kind) (k : ℕ) (S : Store) (M : Memories) → count K (memory K (encode k S M)) ≡ length (nodes K S)
 unfolding encode write
 encode-count set k S M = refl
 encode-count rel k S M = refl

@@ -22,7 +22,8 @@ use Rattle.texts.specs.Grammar.{Sum}
 use Rattle.texts.specs.XForms.{x-forms}
 use Rattle.texts.proofs.XLaws.{x-lawful}
 use Rattle.texts.proofs.Says.{tree-is}
-use Rattle.meanings.specs.AllCalls.{Keeps, policy-of, text-relates}
+use Rattle.meanings.specs.AllCalls.{policy-of, text-relates}
+use Rattle.meanings.specs.OneText.{TextRight}
 use Rattle.policies.specs.Outcome.{refused, text-verdict, policy-step}
 use Rattle.policies.specs.declared.PolicyAnswer.{PolicyAnswer}
 use Rattle.policies.specs.declared.PolicyAnswer.the-variants.{Handle}
@@ -46,15 +47,10 @@ accepted-store t M h e = by-test (λ b. store? M ≡ b → IsStore M) (store? M)
     (λ _ s. store-says M .iff .0 (subst T (sym s) tt))
     (λ _ s. absurd (not-handle (ap (λ u. u .answer) (policy-not-store t M s) ∙ e))) refl
 
--- THE CLAIM, and what it rests on
-pub record TextRight (t : List ℕ) (M : Memories) (h : ℕ) : Type 0 where
-  pub store : IsStore M
-  pub keeps : Keeps (fields M) t
-  pub relates : Relates (fields M) (text-relates (fields M) t) (decode (policy-step t M .state)) h
-
 handles : {g h : ℕ} → Handle g ≡ Handle h → g ≡ h
 handles e = cc e
 
+-- THE THEOREM
 pub text-right : (t : List ℕ) (M : Memories) (h : ℕ) → policy-step t M .answer ≡ Handle h → TextRight t M h
 unfolding policy-step
 text-right t M h e =

@@ -2,6 +2,10 @@ pub mod ReadMeanings
 pub mod PlainStore
 pub mod Lists
 pub mod AllCalls
+pub mod OneText
+pub mod PlainText
+pub mod NewStore
 pub mod Histories
 pub mod EveryHistory
 pub mod AcceptedAlone
+pub mod Worked

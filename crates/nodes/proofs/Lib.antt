@@ -24,4 +24,3 @@ pub mod ReadOnly
 pub mod New
 pub mod Numbers
 pub mod Policies
-pub mod Worked
