@@ -22,6 +22,7 @@ pub mod Images
 pub mod YesNo
 pub mod ReadOnly
 pub mod New
+pub mod FieldOrder
 pub mod Numbers
 pub mod Policies
 pub mod Worked
