@@ -5,3 +5,4 @@ pub mod Rooms
 pub mod Both
 pub mod Whole
 pub mod Clearing
+pub mod Reindexing

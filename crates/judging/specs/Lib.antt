@@ -2,3 +2,4 @@ pub mod Memory
 pub mod Valid
 pub mod Judging
 pub mod Commit
+pub mod Reindexing

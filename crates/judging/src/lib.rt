@@ -10,6 +10,7 @@ ghost use Rattle.judging.specs.Memory.{memories};
 ghost use Rattle.judging.specs.Judging.{Tests, Earlier, LevelWalked, NodeLevel, FitsNext, Judged, BothJudged, StoreJudged};
 
 pub mod commit;
+pub mod reindex;
 mod room;
 
 // The handle of the node at place i; a child stands below it.

@@ -1,34 +1,48 @@
--- Working memory at the start: cleared it is right for any well-formed store, and with its index emptied it is right for the other kind.
+-- Working memory at the start: cleared it is right for any well-formed store, and with another index it is right for the nodes that this is of.
 use mathlib.Core.Path.{_≡_, refl, sym, subst, _∙_}
 use mathlib.Core.List.{List}
 use Prim.Native.Nat.{ℕ, zero, suc, _+_, _*_, _<_, _≤_}
 use native.Mathlib.Omega.{arith}
-use lib.ListN.{length, getD, replicate}
+use lib.ListN.{length, getD, take, drop, replicate}
 use Rattle.nodes.specs.Store.{Kind, arity, Store, nodes, handle-of}
 use Rattle.nodes.specs.WellFormed.{WellFormed}
 use Rattle.memory.specs.Rows.{row, plain}
 use Rattle.memory.specs.Finding.{Emptied}
-use Rattle.memory.specs.Working.{memo-size, words-at, last-in, Known, Entry, Right}
+use Rattle.memory.specs.Working.{memo-size, words-at, last-in, Indexed, Known, Entry, Right}
 use Rattle.memory.proofs.Known.{known-nothing}
 use Rattle.memory.proofs.Parts.{words-same, entry-same}
 use Rattle.memory.proofs.Rows.{row-at}
 
--- a store that is the same with other nodes taken for its own
-pub right-turned : {J K : Kind} {B C : Store} {w w′ m m′ : List ℕ} {n : ℕ} → plain J C m′ 0 ≡ plain K B m n
-    → Right K B w m n → Emptied w w′ → Right J C w′ m′ 0
-right-turned {J} {K} {B} {C} {w} {w′} {m} {m′} {n} e R E = record {
+-- w′ is w but for its index
+pub record IndexApart (w w′ : List ℕ) : Type 0 where
+  pub memo : take (memo-size (length w)) w′ ≡ take (memo-size (length w)) w
+  pub words : drop (memo-size (length w) + 8192) w′ ≡ drop (memo-size (length w) + 8192) w
+  pub wide : length w′ ≡ length w
+
+pub emptied-apart : {w w′ : List ℕ} → Emptied w w′ → IndexApart w w′
+emptied-apart E = record { memo = E .memo; words = E .words; wide = E .wide }
+
+-- a store that is the same with other nodes taken for its own, which the index is then of
+pub right-indexed : {J K : Kind} {B C : Store} {w w′ m m′ : List ℕ} {n n′ : ℕ} → plain J C m′ n′ ≡ plain K B m n
+    → Right K B w m n → Indexed (row (arity J) m′) w′ n′ → IndexApart w w′ → Right J C w′ m′ n′
+right-indexed {J} {K} {B} {C} {w} {w′} {m} {m′} {n} {n′} e R X E = record {
   fields = R .fields;
   formed = subst (WellFormed (R .fields)) (sym e) (R .formed);
   memo = λ j f.
       let g : 4 * j + 3 < memo-size (length w) = subst (λ k. 4 * j + 3 < memo-size k) (E .wide) f in
       subst (λ S. Entry (row 4 w′ j) S) (sym e) (subst (λ x. Entry x (plain K B m n)) (sym (entry-same w w′ (E .memo) j g)) (R .memo j g));
-  index = E .index (row (arity J) m′);
+  index = X;
   words = λ I i a b.
-      subst (λ v. Known I (plain J C m′ 0) (handle-of I 0 i) v) (sym (words-same w w′ (E .wide) (E .words) I i))
+      subst (λ v. Known I (plain J C m′ n′) (handle-of I 0 i) v) (sym (words-same w w′ (E .wide) (E .words) I i))
       (subst (λ S. Known I S (handle-of I 0 i) (getD w (words-at I (length w) + i) 0)) (sym e)
       (R .words I i a (subst (λ S. i < length (nodes I S)) e b)));
   unset = λ I i a b. words-same w w′ (E .wide) (E .words) I i ∙ R .unset I i (subst (λ S. length (nodes I S) ≤ i) e a) b;
 }
+
+-- with none of the other nodes yet
+pub right-turned : {J K : Kind} {B C : Store} {w w′ m m′ : List ℕ} {n : ℕ} → plain J C m′ 0 ≡ plain K B m n
+    → Right K B w m n → Emptied w w′ → Right J C w′ m′ 0
+right-turned {J} {m′ = m′} e R E = right-indexed e R (E .index (row (arity J) m′)) (emptied-apart E)
 
 zero-at : (n i : ℕ) → _≡_ {A = ℕ} (getD (replicate n 0) i 0) 0
 zero-at zero i = refl

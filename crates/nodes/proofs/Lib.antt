@@ -22,5 +22,6 @@ pub mod Images
 pub mod YesNo
 pub mod ReadOnly
 pub mod New
+pub mod FieldOrder
 pub mod Numbers
 pub mod Policies

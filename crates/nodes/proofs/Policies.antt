@@ -1,15 +1,15 @@
--- A policy's program relates exactly the policy's meaning, from the rules of the operations it runs; wrong readings are refuted.
-use mathlib.Core.Path.{_≡_, refl, sym, subst}
-use mathlib.Core.Logic.{_↔_, Iff·symm, Iff·trans}
+-- A policy's program relates exactly the policy's meaning, from the rules of the operations it runs; `!` relates what 01 says; wrong readings are refuted.
+use mathlib.Core.Path.{_≡_, refl, sym, subst, _∙_}
+use mathlib.Core.Logic.{inl, inr, _↔_, Iff·symm, Iff·trans}
 use mathlib.Core.List.{List, [], _∷_}
 use mathlib.Core.Bool.{true}
 use Prim.Native.Nat.{ℕ, zero, suc}
 use native.Mathlib.Omega.{arith}
 use lib.Dec.{T, ltb→lt}
-use Rattle.nodes.specs.Meaning.{Rel, Relates, Same, Filter, Without, Steps}
+use Rattle.nodes.specs.Meaning.{Rel, Relates, Same, Filter, Refuses, Without, Steps}
 use Rattle.nodes.specs.Operations.{difference}
 use Rattle.nodes.specs.Packets.{none, more}
-use Rattle.nodes.specs.Policies.{Policy, fail, skip, tests, assigns, negates, plus, seq, stars, meaning, fields-below?, policy-program}
+use Rattle.nodes.specs.Policies.{Policy, fail, skip, tests, assigns, negates, plus, seq, stars, meaning, predicate?, fields-below?, policy-program}
 use Rattle.nodes.specs.Store.{rel, Store}
 use Rattle.nodes.specs.WellFormed.{WellFormed}
 use Rattle.nodes.proofs.Bools.{and-T}
@@ -52,6 +52,28 @@ module _ {k : ℕ} where
   -- a policy that names only fields below k is built safely, and its handle relates what the policy means
   pub policy-does : {S : Store} (x : Policy) → fields-below? k x ≡ true → WellFormed k S → Does k S (policy-program k x) (Relates k (meaning k x))
   policy-does x o F = policy-built x (rw o tt) F
+
+-- `!` IN 01'S WORDS. A predicate relates packets to themselves only
+pub predicate-same : (k : ℕ) (x : Policy) → T (predicate? x) → (p q : List ℕ) → meaning k x p q → p ≡ q
+unfolding predicate? meaning
+predicate-same k fail e p q m = absurd m
+predicate-same k skip e p q m = m
+predicate-same k (tests v b) e p q m = m .0
+predicate-same k (assigns v b) e p q m = absurd e
+predicate-same k (negates x) e p q m = m .0
+predicate-same k (plus x y) e p q (inl m) = predicate-same k x (and-T (predicate? x) (predicate? y) e .0) p q m
+predicate-same k (plus x y) e p q (inr m) = predicate-same k y (and-T (predicate? x) (predicate? y) e .1) p q m
+predicate-same k (seq x y) e p q m = let u = and-T (predicate? x) (predicate? y) e in
+    predicate-same k x (u .0) p (m .0) (m .2) ∙ predicate-same k y (u .1) (m .0) q (m .3)
+predicate-same k (stars x) e p q m = absurd e
+
+-- so `!p` relates to themselves the packets p refuses
+pub negation-refuses : (k : ℕ) (x : Policy) → predicate? x ≡ true → Same k (meaning k (negates x)) (Filter (Refuses k (meaning k x)))
+unfolding meaning
+negation-refuses k x e p q P Q = (
+  λ m. (m .0, λ s. m .1 (subst (λ r. meaning k x p r) (sym (predicate-same k x (rw e tt) p (s .0) (s .2))) (s .2))),
+  λ m. (m .0, λ y. m .1 (p, P, y)),
+)
 
 -- two handles of one level are equal exactly when they relate the same packets
 pub one-handle↔ : {k l : ℕ} {R T : Rel} {S : Store} (a b : ℕ) → WellFormed k S → Relates l R S a → Relates l T S b → (a ≡ b) ↔ Same l R T

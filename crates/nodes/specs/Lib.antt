@@ -6,6 +6,7 @@ pub mod Relations
 pub mod Sets
 pub mod Images
 pub mod Packets
+pub mod FieldOrder
 pub mod WellFormed
 pub mod Meaning
 pub mod Places

@@ -93,6 +93,10 @@ Image l P R q = Some l (λ p. P p × R p q)
 abbrev pub Preimage : ℕ → Rel → Sem → Sem
 Preimage l R P p = Some l (λ q. P q × R p q)
 
+-- p has no output at all by R; 01, "the packets p refuses"
+abbrev pub Refuses : ℕ → Rel → Sem
+Refuses l R p = ¬ Domain l R p
+
 -- `ifelse`: the first set where field v is 1, else the second
 abbrev pub Choice : ℕ → Sem → Sem → Sem
 Choice v P Q p = ((getD p v 0 ≡ 1) × P p) ⊎ ((getD p v 0 ≡ 0) × Q p)

@@ -2,6 +2,7 @@
 use mathlib.Core.Path.{_≡_}
 use mathlib.Core.List.{List, [], _∷_}
 use Prim.Native.Nat.{ℕ, zero, suc, _+_, _*_, _/_, _%_, _^_, _<_}
+use lib.ListN.{length}
 use Rattle.nodes.specs.Store.{Kind, set, rel, arity, Store, child}
 
 -- l digits, each the number of a child
@@ -13,10 +14,16 @@ pub data Digits (K : Kind) : ℕ → List ℕ → Type 0 where
 abbrev pub Packet : ℕ → List ℕ → Type 0
 Packet l p = Digits set l p
 
--- 01: "A packet of k fields is a number below 2^k; field 0 is its most significant bit."
+-- PACKET NUMBERS. 01: "A packet of k fields is a number below 2^k; field 0 is its most significant bit."
+-- `packet l n` is the packet of l fields with the number n, `number` its inverse. The order of packets is no matter of their numbers and
+-- goes by FieldOrder. Beside the laws in proofs/Numbers, proofs/Walking of `outcomes` unfolds `packet`, for the loop of `relates`.
 unfoldable pub packet : ℕ → ℕ → List ℕ
 packet zero n = []
 packet (suc l) n = n / 2 ^ l % 2 ∷ packet l n
+
+unfoldable pub number : List ℕ → ℕ
+number [] = 0
+number (b ∷ p) = number p + b * 2 ^ length p
 
 -- the digits of an input and an output packet: 01, "first digit input bit, second output bit"
 abbrev pub digits : List ℕ → List ℕ → List ℕ

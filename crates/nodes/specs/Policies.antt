@@ -21,7 +21,8 @@ pub data Policy : Type 0 where
   seq : Policy → Policy → Policy
   stars : Policy → Policy
 
--- NetKAT without `dup`, for packets of k fields; 01: "`!p` relates to themselves the packets p refuses"
+-- NetKAT without `dup`, for packets of k fields. The operand of a `!` is a predicate, which relates a packet to itself or to nothing; so 01's
+-- "`!p` relates to themselves the packets p refuses" is what stands here: `negation-refuses` of proofs/Policies.
 unfoldable pub meaning : ℕ → Policy → Rel
 meaning k fail p q = ⊥
 meaning k skip p q = p ≡ q

@@ -22,6 +22,7 @@ use Rattle.outcomes.specs.Checking.{Low, Goes, Checks, ChecksBoth, Accep
 use Rattle.outcomes.specs.Finishing.{Ends}
 use Rattle.judging.specs.Commit.{Committed}
 use Rattle.judging.specs.Judging.{kind-last, both, StoreJudged}
+use Rattle.judging.specs.Reindexing.{Reindexed}
 use Rattle.judging.specs.Memory.{Memories, memory, head, count, fields, body, decode}
 use Rattle.outcomes.specs.Outcome.{Verdict, runs, going, told}
 use Rattle.judging.specs.Valid.{IsStore}
@@ -62,6 +63,21 @@ ready-here K M w n Y en = let e = whole-part (head K) (memory K M) in record {
   room = room-here K M (Y .store) n en;
   right = subst (λ b. Right K (decode M) w b n) (sym e) (subst (λ n. Right K (decode M) w (body K (memory K M)) n) (sym en) (Y .right));
 }
+
+-- the index turned to the nodes of kind K, as the code lends them on
+pub ready-turned : (K : Kind) (M : Memories) (w w′ : List ℕ) (n : ℕ) → Accepted (other K) M w → n ≡ count K (memory K M)
+    → Reindexed (arity K) n (part-of K M) w w′ → Accepted K M w′
+ready-turned K M w w′ n Y en X =
+    let J = other K in
+    let o = body J (memory J M) in
+    let j = count J (memory J M) in
+    let was : Right J (plain K (decode M) (part-of K M) n) w o j = subst (λ B. Right J B w o j) (sym (nodes-here K M (Y .store) n en)) (Y .right) in
+    let now : Right K (decode M) w′ (part-of K M) n = subst (λ B. Right K B w′ (part-of K M) n) (decoded J M) (X .right K (decode M) o j refl was) in
+    record {
+      store = Y .store;
+      right = subst (λ n. Right K (decode M) w′ (body K (memory K M)) n) en
+          (subst (λ b. Right K (decode M) w′ b n) (whole-part (head K) (memory K M)) now);
+    }
 
 -- A CHECK that says how the call goes on
 module _ (M : Memories) (s : IsStore M) (judge : ℕ → Store → Check) (r : Check) (G : Goes (fields M) (decode M) (judge (fields M)) r) where

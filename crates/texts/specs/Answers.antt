@@ -1,7 +1,7 @@
--- What a reading says of a text, in terms of the grammar and of its tree alone.
+-- Document 01's number and values for every case of a reading; and what a reading says of a text, in terms of the grammar and of its tree alone.
 use mathlib.Core.Path.{_≡_}
 use Prim.Native.Nat.{ℕ, _≤_, _<_}
-use mathlib.Core.List.{List, _∷_, _++_}
+use mathlib.Core.List.{List, [], _∷_, _++_}
 use mathlib.Core.Bool.{true, false}
 use lib.ListN.{length, drop}
 use Rattle.nodes.specs.Policies.{Policy, predicate?, negates-predicates?, fields-below?}
@@ -9,6 +9,22 @@ use Rattle.texts.specs.Lexicon.{Lexicon}
 use Rattle.texts.specs.Grammar.{Atom, Sum, NotPolicy, TooDeep}
 use Rattle.texts.specs.Machine.{Out, accept, bad, deep, reads}
 use Rattle.texts.specs.declared.Reading.{Reading}
+
+-- 01, "What each operation declines, in order": the refusal's number, or 0
+abbrev pub reading-refusal : Reading → ℕ
+reading-refusal Reading.Policy = 0
+reading-refusal (Reading.NotPolicy i) = 7
+reading-refusal (Reading.TooDeep i) = 9
+reading-refusal (Reading.NoField i) = 5
+reading-refusal (Reading.NotPredicate i) = 8
+
+-- the refusal's offset; nothing with a policy
+abbrev pub reading-values : Reading → List ℕ
+reading-values Reading.Policy = []
+reading-values (Reading.NotPolicy i) = i ∷ []
+reading-values (Reading.TooDeep i) = i ∷ []
+reading-values (Reading.NoField i) = i ∷ []
+reading-values (Reading.NotPredicate i) = i ∷ []
 
 -- a text begins with the spelling of a field, before the `=` of a test or the `:` of an assignment
 pub data Names (X : Lexicon) (n : ℕ) : List ℕ → Type 0 where

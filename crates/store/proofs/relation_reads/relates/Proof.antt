@@ -5,7 +5,7 @@ use native.Mathlib.Omega.{arith}
 use borrow.Author.Needs.{needs}
 use Rattle.nodes.specs.Store.{rel, Store}
 use Rattle.nodes.specs.WellFormed.{Held}
-use Rattle.nodes.proofs.Numbers.{pow-pos}
+use Rattle.nodes.proofs.FieldOrder.{pow-pos}
 use Rattle.memory.specs.Rows.{places, plain}
 use Rattle.outcomes.proofs.Walking.{pow-half, Walking, walking-starts, walking-within, walking-next, walking-ends}
 use Rattle.store.proofs.relation_reads.relates.Statement.{statement}
