@@ -1,5 +1,5 @@
 //! Links libpacket_store.a from the folder that `FIMGRODA_STATICLIB` names, else from the one that
-//! `rt staticlib packet_store` writes to.
+//! `make-library` writes to.
 
 use std::env;
 use std::path::Path;
@@ -13,7 +13,7 @@ fn main() {
     let archive = folder.join("libpacket_store.a");
     if !archive.is_file() {
         eprintln!("{} is not there.", archive.display());
-        eprintln!("Run `rt staticlib packet_store`, or name its folder by FIMGRODA_STATICLIB.");
+        eprintln!("Run `./make-library` in the top folder, or name its folder by FIMGRODA_STATICLIB.");
         std::process::exit(1);
     }
     println!("cargo:rerun-if-changed={}", archive.display());

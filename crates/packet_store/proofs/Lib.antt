@@ -1,3 +1,2 @@
--- What the proofs of several functions use, and what is known of an answer.
-pub mod Answering
+-- What is known of an answer.
 pub mod TextOffsets

@@ -24,7 +24,7 @@ use Rattle.texts.proofs.XLaws.{x-lawful, x-bounds}
 use Rattle.texts.proofs.Says.{says}
 use Rattle.policies.specs.Outcome.{refused, of-reading, short?, text-verdict, policy-step}
 use Rattle.policies.specs.declared.PolicyAnswer.{PolicyAnswer}
-use Rattle.packet_store.specs.Exported.{offset}
+use Rattle.packet_store.specs.PackedPolicy.{offset}
 
 -- whatever a verdict comes to has an offset of at most n
 abbrev OffsetBy : ℕ → Verdict PolicyAnswer → Type 0

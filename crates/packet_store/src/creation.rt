@@ -1,7 +1,7 @@
 // The call that begins a store, under its C name.
 ghost use Rattle.judging.specs.Memory.{memories};
-ghost use Rattle.store.specs.Calls.{new-store};
-ghost use Rattle.packet_store.specs.Exported.{Answers};
+ghost use Rattle.store.specs.Calls.{new-store, step};
+ghost use Rattle.packing.specs.Returns.{Answers};
 
 // A store of k fields in both memories.
 #[no_mangle]
@@ -11,7 +11,7 @@ pub extern "C" fn packet_store_new(
     work: &mut [u32],
     k: u32,
 ) -> u64
-    ensures { λ r. ⌜ Answers (new-store k) (memories (now (relations .entry)) (now (sets .entry)))
+    ensures { λ r. ⌜ Answers (step (new-store k) (memories (now (relations .entry)) (now (sets .entry))))
         (memories (now (relations .exit)) (now (sets .exit))) (now (work .entry)) (now (work .exit)) r ⌝ }
 {
     packing::pack(new_store::new(relations, sets, work, k))

@@ -1,13 +1,13 @@
 // The calls that read sets and may add relations, under C names.
 ghost use Rattle.judging.specs.Memory.{memories};
-ghost use Rattle.store.specs.Calls.{filter-call};
+ghost use Rattle.store.specs.Calls.{filter-call, step};
 ghost use Rattle.store.specs.declared.filter_calls.FilterCall.the-variants.{Diagonal, Ifwd, Ibwd};
-ghost use Rattle.packet_store.specs.Exported.{Answers};
+ghost use Rattle.packing.specs.Returns.{Answers};
 use store::filter_calls::FilterCall;
 
 // Any of these calls, its answer packed.
 fn packed(relations: &mut [u32], sets: &[u32], work: &mut [u32], call: FilterCall) -> u64
-    ensures { λ r. ⌜ Answers (filter-call call) (memories (now (relations .entry)) (now (sets .entry)))
+    ensures { λ r. ⌜ Answers (step (filter-call call) (memories (now (relations .entry)) (now (sets .entry))))
         (memories (now (relations .exit)) (now (sets .entry))) (now (work .entry)) (now (work .exit)) r ⌝ }
 {
     packing::pack(store::filter_calls::filter_call(relations, sets, work, call))
@@ -21,7 +21,7 @@ pub extern "C" fn packet_store_relation_diagonal(
     work: &mut [u32],
     p: u32,
 ) -> u64
-    ensures { λ r. ⌜ Answers (filter-call (Diagonal p)) (memories (now (relations .entry)) (now (sets .entry)))
+    ensures { λ r. ⌜ Answers (step (filter-call (Diagonal p)) (memories (now (relations .entry)) (now (sets .entry))))
         (memories (now (relations .exit)) (now (sets .entry))) (now (work .entry)) (now (work .exit)) r ⌝ }
 {
     packed(relations, sets, work, FilterCall::Diagonal(p))
@@ -35,7 +35,7 @@ pub extern "C" fn packet_store_relation_ifwd(
     work: &mut [u32],
     p: u32,
 ) -> u64
-    ensures { λ r. ⌜ Answers (filter-call (Ifwd p)) (memories (now (relations .entry)) (now (sets .entry)))
+    ensures { λ r. ⌜ Answers (step (filter-call (Ifwd p)) (memories (now (relations .entry)) (now (sets .entry))))
         (memories (now (relations .exit)) (now (sets .entry))) (now (work .entry)) (now (work .exit)) r ⌝ }
 {
     packed(relations, sets, work, FilterCall::Ifwd(p))
@@ -49,7 +49,7 @@ pub extern "C" fn packet_store_relation_ibwd(
     work: &mut [u32],
     p: u32,
 ) -> u64
-    ensures { λ r. ⌜ Answers (filter-call (Ibwd p)) (memories (now (relations .entry)) (now (sets .entry)))
+    ensures { λ r. ⌜ Answers (step (filter-call (Ibwd p)) (memories (now (relations .entry)) (now (sets .entry))))
         (memories (now (relations .exit)) (now (sets .entry))) (now (work .entry)) (now (work .exit)) r ⌝ }
 {
     packed(relations, sets, work, FilterCall::Ibwd(p))

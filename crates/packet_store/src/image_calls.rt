@@ -1,13 +1,13 @@
 // The calls that read relations and may add sets, under C names.
 ghost use Rattle.judging.specs.Memory.{memories};
-ghost use Rattle.store.specs.Calls.{image-call};
+ghost use Rattle.store.specs.Calls.{image-call, step};
 ghost use Rattle.store.specs.declared.image_calls.ImageCall.the-variants.{Fwd, Bwd, Push, Pull};
-ghost use Rattle.packet_store.specs.Exported.{Answers};
+ghost use Rattle.packing.specs.Returns.{Answers};
 use store::image_calls::ImageCall;
 
 // Any of these calls, its answer packed.
 fn packed(relations: &[u32], sets: &mut [u32], work: &mut [u32], call: ImageCall) -> u64
-    ensures { λ r. ⌜ Answers (image-call call) (memories (now (relations .entry)) (now (sets .entry)))
+    ensures { λ r. ⌜ Answers (step (image-call call) (memories (now (relations .entry)) (now (sets .entry))))
         (memories (now (relations .entry)) (now (sets .exit))) (now (work .entry)) (now (work .exit)) r ⌝ }
 {
     packing::pack(store::image_calls::image_call(relations, sets, work, call))
@@ -21,7 +21,7 @@ pub extern "C" fn packet_store_relation_fwd(
     work: &mut [u32],
     a: u32,
 ) -> u64
-    ensures { λ r. ⌜ Answers (image-call (Fwd a)) (memories (now (relations .entry)) (now (sets .entry)))
+    ensures { λ r. ⌜ Answers (step (image-call (Fwd a)) (memories (now (relations .entry)) (now (sets .entry))))
         (memories (now (relations .entry)) (now (sets .exit))) (now (work .entry)) (now (work .exit)) r ⌝ }
 {
     packed(relations, sets, work, ImageCall::Fwd(a))
@@ -35,7 +35,7 @@ pub extern "C" fn packet_store_relation_bwd(
     work: &mut [u32],
     a: u32,
 ) -> u64
-    ensures { λ r. ⌜ Answers (image-call (Bwd a)) (memories (now (relations .entry)) (now (sets .entry)))
+    ensures { λ r. ⌜ Answers (step (image-call (Bwd a)) (memories (now (relations .entry)) (now (sets .entry))))
         (memories (now (relations .entry)) (now (sets .exit))) (now (work .entry)) (now (work .exit)) r ⌝ }
 {
     packed(relations, sets, work, ImageCall::Bwd(a))
@@ -50,7 +50,7 @@ pub extern "C" fn packet_store_relation_push(
     p: u32,
     a: u32,
 ) -> u64
-    ensures { λ r. ⌜ Answers (image-call (Push p a)) (memories (now (relations .entry)) (now (sets .entry)))
+    ensures { λ r. ⌜ Answers (step (image-call (Push p a)) (memories (now (relations .entry)) (now (sets .entry))))
         (memories (now (relations .entry)) (now (sets .exit))) (now (work .entry)) (now (work .exit)) r ⌝ }
 {
     packed(relations, sets, work, ImageCall::Push(p, a))
@@ -65,7 +65,7 @@ pub extern "C" fn packet_store_relation_pull(
     a: u32,
     p: u32,
 ) -> u64
-    ensures { λ r. ⌜ Answers (image-call (Pull a p)) (memories (now (relations .entry)) (now (sets .entry)))
+    ensures { λ r. ⌜ Answers (step (image-call (Pull a p)) (memories (now (relations .entry)) (now (sets .entry))))
         (memories (now (relations .entry)) (now (sets .exit))) (now (work .entry)) (now (work .exit)) r ⌝ }
 {
     packed(relations, sets, work, ImageCall::Pull(a, p))

@@ -1,10 +1,7 @@
-// The calls of a packet store under C names: include/packet_store.h says what each does.
+// The calls of a packet store that may add nodes, under C names: include/packet_store.h says what each does.
 pub mod creation;
 pub mod filter_calls;
 pub mod image_calls;
-pub mod path_reads;
 pub mod policy_call;
 pub mod relation_calls;
-pub mod relation_reads;
 pub mod set_calls;
-pub mod set_reads;

@@ -3,7 +3,7 @@ ghost use mathlib.Core.Path.{_≡_};
 ghost use Prim.Native.Nat.{_≤_};
 ghost use Rattle.judging.specs.Memory.{memories};
 ghost use Rattle.policies.specs.declared.PolicyAnswer.the-variants.{Declined};
-ghost use Rattle.packet_store.specs.Exported.{offset, packed-policy, AnswersPolicy};
+ghost use Rattle.packet_store.specs.PackedPolicy.{offset, packed-policy, AnswersPolicy};
 use policies::PolicyAnswer;
 use policies::PolicyRefusal;
 

@@ -1,14 +1,14 @@
 // The calls on relations that may add some, under C names.
 ghost use Rattle.judging.specs.Memory.{memories};
-ghost use Rattle.store.specs.Calls.{relation-call};
+ghost use Rattle.store.specs.Calls.{relation-call, step};
 ghost use Rattle.store.specs.declared.relation_calls.RelationCall.the-variants.{Mk, Zero, One, Top, Union, Intersect, Xor, Difference, Complement};
 ghost use Rattle.store.specs.declared.relation_calls.RelationCall.the-variants.{Sequence, Star, Flip, Test, Assign, NaiveForward, Backward};
-ghost use Rattle.packet_store.specs.Exported.{Answers};
+ghost use Rattle.packing.specs.Returns.{Answers};
 use store::relation_calls::RelationCall;
 
 // Any of these calls, its answer packed.
 fn packed(relations: &mut [u32], sets: &[u32], work: &mut [u32], call: RelationCall) -> u64
-    ensures { λ r. ⌜ Answers (relation-call call) (memories (now (relations .entry)) (now (sets .entry)))
+    ensures { λ r. ⌜ Answers (step (relation-call call) (memories (now (relations .entry)) (now (sets .entry))))
         (memories (now (relations .exit)) (now (sets .entry))) (now (work .entry)) (now (work .exit)) r ⌝ }
 {
     packing::pack(store::relation_calls::relation_call(relations, sets, work, call))
@@ -25,7 +25,7 @@ pub extern "C" fn packet_store_relation_mk(
     x10: u32,
     x11: u32,
 ) -> u64
-    ensures { λ r. ⌜ Answers (relation-call (Mk x00 x01 x10 x11)) (memories (now (relations .entry)) (now (sets .entry)))
+    ensures { λ r. ⌜ Answers (step (relation-call (Mk x00 x01 x10 x11)) (memories (now (relations .entry)) (now (sets .entry))))
         (memories (now (relations .exit)) (now (sets .entry))) (now (work .entry)) (now (work .exit)) r ⌝ }
 {
     packed(relations, sets, work, RelationCall::Mk(x00, x01, x10, x11))
@@ -38,7 +38,7 @@ pub extern "C" fn packet_store_relation_zero(
     sets: &[u32],
     work: &mut [u32],
 ) -> u64
-    ensures { λ r. ⌜ Answers (relation-call Zero) (memories (now (relations .entry)) (now (sets .entry)))
+    ensures { λ r. ⌜ Answers (step (relation-call Zero) (memories (now (relations .entry)) (now (sets .entry))))
         (memories (now (relations .exit)) (now (sets .entry))) (now (work .entry)) (now (work .exit)) r ⌝ }
 {
     packed(relations, sets, work, RelationCall::Zero)
@@ -51,7 +51,7 @@ pub extern "C" fn packet_store_relation_one(
     sets: &[u32],
     work: &mut [u32],
 ) -> u64
-    ensures { λ r. ⌜ Answers (relation-call One) (memories (now (relations .entry)) (now (sets .entry)))
+    ensures { λ r. ⌜ Answers (step (relation-call One) (memories (now (relations .entry)) (now (sets .entry))))
         (memories (now (relations .exit)) (now (sets .entry))) (now (work .entry)) (now (work .exit)) r ⌝ }
 {
     packed(relations, sets, work, RelationCall::One)
@@ -64,7 +64,7 @@ pub extern "C" fn packet_store_relation_top(
     sets: &[u32],
     work: &mut [u32],
 ) -> u64
-    ensures { λ r. ⌜ Answers (relation-call Top) (memories (now (relations .entry)) (now (sets .entry)))
+    ensures { λ r. ⌜ Answers (step (relation-call Top) (memories (now (relations .entry)) (now (sets .entry))))
         (memories (now (relations .exit)) (now (sets .entry))) (now (work .entry)) (now (work .exit)) r ⌝ }
 {
     packed(relations, sets, work, RelationCall::Top)
@@ -79,7 +79,7 @@ pub extern "C" fn packet_store_relation_union(
     a: u32,
     b: u32,
 ) -> u64
-    ensures { λ r. ⌜ Answers (relation-call (Union a b)) (memories (now (relations .entry)) (now (sets .entry)))
+    ensures { λ r. ⌜ Answers (step (relation-call (Union a b)) (memories (now (relations .entry)) (now (sets .entry))))
         (memories (now (relations .exit)) (now (sets .entry))) (now (work .entry)) (now (work .exit)) r ⌝ }
 {
     packed(relations, sets, work, RelationCall::Union(a, b))
@@ -94,7 +94,7 @@ pub extern "C" fn packet_store_relation_intersect(
     a: u32,
     b: u32,
 ) -> u64
-    ensures { λ r. ⌜ Answers (relation-call (Intersect a b)) (memories (now (relations .entry)) (now (sets .entry)))
+    ensures { λ r. ⌜ Answers (step (relation-call (Intersect a b)) (memories (now (relations .entry)) (now (sets .entry))))
         (memories (now (relations .exit)) (now (sets .entry))) (now (work .entry)) (now (work .exit)) r ⌝ }
 {
     packed(relations, sets, work, RelationCall::Intersect(a, b))
@@ -109,7 +109,7 @@ pub extern "C" fn packet_store_relation_xor(
     a: u32,
     b: u32,
 ) -> u64
-    ensures { λ r. ⌜ Answers (relation-call (Xor a b)) (memories (now (relations .entry)) (now (sets .entry)))
+    ensures { λ r. ⌜ Answers (step (relation-call (Xor a b)) (memories (now (relations .entry)) (now (sets .entry))))
         (memories (now (relations .exit)) (now (sets .entry))) (now (work .entry)) (now (work .exit)) r ⌝ }
 {
     packed(relations, sets, work, RelationCall::Xor(a, b))
@@ -124,7 +124,7 @@ pub extern "C" fn packet_store_relation_difference(
     a: u32,
     b: u32,
 ) -> u64
-    ensures { λ r. ⌜ Answers (relation-call (Difference a b)) (memories (now (relations .entry)) (now (sets .entry)))
+    ensures { λ r. ⌜ Answers (step (relation-call (Difference a b)) (memories (now (relations .entry)) (now (sets .entry))))
         (memories (now (relations .exit)) (now (sets .entry))) (now (work .entry)) (now (work .exit)) r ⌝ }
 {
     packed(relations, sets, work, RelationCall::Difference(a, b))
@@ -138,7 +138,7 @@ pub extern "C" fn packet_store_relation_complement(
     work: &mut [u32],
     a: u32,
 ) -> u64
-    ensures { λ r. ⌜ Answers (relation-call (Complement a)) (memories (now (relations .entry)) (now (sets .entry)))
+    ensures { λ r. ⌜ Answers (step (relation-call (Complement a)) (memories (now (relations .entry)) (now (sets .entry))))
         (memories (now (relations .exit)) (now (sets .entry))) (now (work .entry)) (now (work .exit)) r ⌝ }
 {
     packed(relations, sets, work, RelationCall::Complement(a))
@@ -153,7 +153,7 @@ pub extern "C" fn packet_store_relation_sequence(
     a: u32,
     b: u32,
 ) -> u64
-    ensures { λ r. ⌜ Answers (relation-call (Sequence a b)) (memories (now (relations .entry)) (now (sets .entry)))
+    ensures { λ r. ⌜ Answers (step (relation-call (Sequence a b)) (memories (now (relations .entry)) (now (sets .entry))))
         (memories (now (relations .exit)) (now (sets .entry))) (now (work .entry)) (now (work .exit)) r ⌝ }
 {
     packed(relations, sets, work, RelationCall::Sequence(a, b))
@@ -167,7 +167,7 @@ pub extern "C" fn packet_store_relation_star(
     work: &mut [u32],
     a: u32,
 ) -> u64
-    ensures { λ r. ⌜ Answers (relation-call (Star a)) (memories (now (relations .entry)) (now (sets .entry)))
+    ensures { λ r. ⌜ Answers (step (relation-call (Star a)) (memories (now (relations .entry)) (now (sets .entry))))
         (memories (now (relations .exit)) (now (sets .entry))) (now (work .entry)) (now (work .exit)) r ⌝ }
 {
     packed(relations, sets, work, RelationCall::Star(a))
@@ -181,7 +181,7 @@ pub extern "C" fn packet_store_relation_flip(
     work: &mut [u32],
     a: u32,
 ) -> u64
-    ensures { λ r. ⌜ Answers (relation-call (Flip a)) (memories (now (relations .entry)) (now (sets .entry)))
+    ensures { λ r. ⌜ Answers (step (relation-call (Flip a)) (memories (now (relations .entry)) (now (sets .entry))))
         (memories (now (relations .exit)) (now (sets .entry))) (now (work .entry)) (now (work .exit)) r ⌝ }
 {
     packed(relations, sets, work, RelationCall::Flip(a))
@@ -196,7 +196,7 @@ pub extern "C" fn packet_store_relation_test(
     var: u32,
     value: u32,
 ) -> u64
-    ensures { λ r. ⌜ Answers (relation-call (Test var value)) (memories (now (relations .entry)) (now (sets .entry)))
+    ensures { λ r. ⌜ Answers (step (relation-call (Test var value)) (memories (now (relations .entry)) (now (sets .entry))))
         (memories (now (relations .exit)) (now (sets .entry))) (now (work .entry)) (now (work .exit)) r ⌝ }
 {
     packed(relations, sets, work, RelationCall::Test(var, value))
@@ -211,7 +211,7 @@ pub extern "C" fn packet_store_relation_assign(
     var: u32,
     value: u32,
 ) -> u64
-    ensures { λ r. ⌜ Answers (relation-call (Assign var value)) (memories (now (relations .entry)) (now (sets .entry)))
+    ensures { λ r. ⌜ Answers (step (relation-call (Assign var value)) (memories (now (relations .entry)) (now (sets .entry))))
         (memories (now (relations .exit)) (now (sets .entry))) (now (work .entry)) (now (work .exit)) r ⌝ }
 {
     packed(relations, sets, work, RelationCall::Assign(var, value))
@@ -225,7 +225,7 @@ pub extern "C" fn packet_store_relation_naive_forward(
     work: &mut [u32],
     a: u32,
 ) -> u64
-    ensures { λ r. ⌜ Answers (relation-call (NaiveForward a)) (memories (now (relations .entry)) (now (sets .entry)))
+    ensures { λ r. ⌜ Answers (step (relation-call (NaiveForward a)) (memories (now (relations .entry)) (now (sets .entry))))
         (memories (now (relations .exit)) (now (sets .entry))) (now (work .entry)) (now (work .exit)) r ⌝ }
 {
     packed(relations, sets, work, RelationCall::NaiveForward(a))
@@ -239,7 +239,7 @@ pub extern "C" fn packet_store_relation_backward(
     work: &mut [u32],
     a: u32,
 ) -> u64
-    ensures { λ r. ⌜ Answers (relation-call (Backward a)) (memories (now (relations .entry)) (now (sets .entry)))
+    ensures { λ r. ⌜ Answers (step (relation-call (Backward a)) (memories (now (relations .entry)) (now (sets .entry))))
         (memories (now (relations .exit)) (now (sets .entry))) (now (work .entry)) (now (work .exit)) r ⌝ }
 {
     packed(relations, sets, work, RelationCall::Backward(a))

@@ -1,13 +1,13 @@
 // The calls on sets that may add some, under C names.
 ghost use Rattle.judging.specs.Memory.{memories};
-ghost use Rattle.store.specs.Calls.{set-call};
+ghost use Rattle.store.specs.Calls.{set-call, step};
 ghost use Rattle.store.specs.declared.set_calls.SetCall.the-variants.{Mk, Zero, One, Union, Intersect, Xor, Difference, Test, Ifelse};
-ghost use Rattle.packet_store.specs.Exported.{Answers};
+ghost use Rattle.packing.specs.Returns.{Answers};
 use store::set_calls::SetCall;
 
 // Any of these calls, its answer packed.
 fn packed(relations: &[u32], sets: &mut [u32], work: &mut [u32], call: SetCall) -> u64
-    ensures { λ r. ⌜ Answers (set-call call) (memories (now (relations .entry)) (now (sets .entry)))
+    ensures { λ r. ⌜ Answers (step (set-call call) (memories (now (relations .entry)) (now (sets .entry))))
         (memories (now (relations .entry)) (now (sets .exit))) (now (work .entry)) (now (work .exit)) r ⌝ }
 {
     packing::pack(store::set_calls::set_call(relations, sets, work, call))
@@ -22,7 +22,7 @@ pub extern "C" fn packet_store_set_mk(
     x0: u32,
     x1: u32,
 ) -> u64
-    ensures { λ r. ⌜ Answers (set-call (Mk x0 x1)) (memories (now (relations .entry)) (now (sets .entry)))
+    ensures { λ r. ⌜ Answers (step (set-call (Mk x0 x1)) (memories (now (relations .entry)) (now (sets .entry))))
         (memories (now (relations .entry)) (now (sets .exit))) (now (work .entry)) (now (work .exit)) r ⌝ }
 {
     packed(relations, sets, work, SetCall::Mk(x0, x1))
@@ -35,7 +35,7 @@ pub extern "C" fn packet_store_set_zero(
     sets: &mut [u32],
     work: &mut [u32],
 ) -> u64
-    ensures { λ r. ⌜ Answers (set-call Zero) (memories (now (relations .entry)) (now (sets .entry)))
+    ensures { λ r. ⌜ Answers (step (set-call Zero) (memories (now (relations .entry)) (now (sets .entry))))
         (memories (now (relations .entry)) (now (sets .exit))) (now (work .entry)) (now (work .exit)) r ⌝ }
 {
     packed(relations, sets, work, SetCall::Zero)
@@ -44,7 +44,7 @@ pub extern "C" fn packet_store_set_zero(
 // The full set of level k.
 #[no_mangle]
 pub extern "C" fn packet_store_set_one(relations: &[u32], sets: &mut [u32], work: &mut [u32]) -> u64
-    ensures { λ r. ⌜ Answers (set-call One) (memories (now (relations .entry)) (now (sets .entry)))
+    ensures { λ r. ⌜ Answers (step (set-call One) (memories (now (relations .entry)) (now (sets .entry))))
         (memories (now (relations .entry)) (now (sets .exit))) (now (work .entry)) (now (work .exit)) r ⌝ }
 {
     packed(relations, sets, work, SetCall::One)
@@ -59,7 +59,7 @@ pub extern "C" fn packet_store_set_union(
     a: u32,
     b: u32,
 ) -> u64
-    ensures { λ r. ⌜ Answers (set-call (Union a b)) (memories (now (relations .entry)) (now (sets .entry)))
+    ensures { λ r. ⌜ Answers (step (set-call (Union a b)) (memories (now (relations .entry)) (now (sets .entry))))
         (memories (now (relations .entry)) (now (sets .exit))) (now (work .entry)) (now (work .exit)) r ⌝ }
 {
     packed(relations, sets, work, SetCall::Union(a, b))
@@ -74,7 +74,7 @@ pub extern "C" fn packet_store_set_intersect(
     a: u32,
     b: u32,
 ) -> u64
-    ensures { λ r. ⌜ Answers (set-call (Intersect a b)) (memories (now (relations .entry)) (now (sets .entry)))
+    ensures { λ r. ⌜ Answers (step (set-call (Intersect a b)) (memories (now (relations .entry)) (now (sets .entry))))
         (memories (now (relations .entry)) (now (sets .exit))) (now (work .entry)) (now (work .exit)) r ⌝ }
 {
     packed(relations, sets, work, SetCall::Intersect(a, b))
@@ -89,7 +89,7 @@ pub extern "C" fn packet_store_set_xor(
     a: u32,
     b: u32,
 ) -> u64
-    ensures { λ r. ⌜ Answers (set-call (Xor a b)) (memories (now (relations .entry)) (now (sets .entry)))
+    ensures { λ r. ⌜ Answers (step (set-call (Xor a b)) (memories (now (relations .entry)) (now (sets .entry))))
         (memories (now (relations .entry)) (now (sets .exit))) (now (work .entry)) (now (work .exit)) r ⌝ }
 {
     packed(relations, sets, work, SetCall::Xor(a, b))
@@ -104,7 +104,7 @@ pub extern "C" fn packet_store_set_difference(
     a: u32,
     b: u32,
 ) -> u64
-    ensures { λ r. ⌜ Answers (set-call (Difference a b)) (memories (now (relations .entry)) (now (sets .entry)))
+    ensures { λ r. ⌜ Answers (step (set-call (Difference a b)) (memories (now (relations .entry)) (now (sets .entry))))
         (memories (now (relations .entry)) (now (sets .exit))) (now (work .entry)) (now (work .exit)) r ⌝ }
 {
     packed(relations, sets, work, SetCall::Difference(a, b))
@@ -119,7 +119,7 @@ pub extern "C" fn packet_store_set_test(
     var: u32,
     value: u32,
 ) -> u64
-    ensures { λ r. ⌜ Answers (set-call (Test var value)) (memories (now (relations .entry)) (now (sets .entry)))
+    ensures { λ r. ⌜ Answers (step (set-call (Test var value)) (memories (now (relations .entry)) (now (sets .entry))))
         (memories (now (relations .entry)) (now (sets .exit))) (now (work .entry)) (now (work .exit)) r ⌝ }
 {
     packed(relations, sets, work, SetCall::Test(var, value))
@@ -135,7 +135,7 @@ pub extern "C" fn packet_store_set_ifelse(
     t: u32,
     e: u32,
 ) -> u64
-    ensures { λ r. ⌜ Answers (set-call (Ifelse var t e)) (memories (now (relations .entry)) (now (sets .entry)))
+    ensures { λ r. ⌜ Answers (step (set-call (Ifelse var t e)) (memories (now (relations .entry)) (now (sets .entry))))
         (memories (now (relations .entry)) (now (sets .exit))) (now (work .entry)) (now (work .exit)) r ⌝ }
 {
     packed(relations, sets, work, SetCall::Ifelse(var, t, e))

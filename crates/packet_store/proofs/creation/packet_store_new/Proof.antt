@@ -1,7 +1,7 @@
 -- One call, its answer packed.
 use borrow.Author.Needs.{needs}
 use Rattle.store.specs.Calls.{step}
-use Rattle.packet_store.proofs.Answering.{answers}
+use Rattle.packing.proofs.Answering.{answers}
 use Rattle.packet_store.proofs.creation.packet_store_new.Statement.{statement}
 use Rattle.packet_store.proofs.creation.packet_store_new.Tie as tie
 

@@ -1,6 +1,6 @@
 -- One call, its answer packed.
 use borrow.Author.Needs.{needs}
-use Rattle.packet_store.proofs.Answering.{answers}
+use Rattle.packing.proofs.Answering.{answers}
 use Rattle.packet_store.proofs.filter_calls.packed.Statement.{statement}
 use Rattle.packet_store.proofs.filter_calls.packed.Tie as tie
 

@@ -5,7 +5,7 @@ use native.Mathlib.Omega.{arith}
 use borrow.Author.Needs.{needs}
 use Rattle.policies.specs.declared.PolicyAnswer.the-variants.{Declined}
 use Rattle.policies.specs.declared.PolicyRefusal.{PolicyRefusal}
-use Rattle.packet_store.specs.Exported.{offset, packed-policy}
+use Rattle.packet_store.specs.PackedPolicy.{offset, packed-policy}
 use Rattle.packing.proofs.Halves.{high}
 use Rattle.packet_store.proofs.policy_call.pack_refusal.Statement.{statement}
 use Rattle.packet_store.proofs.policy_call.pack_refusal.Tie as tie

@@ -1,6 +1,6 @@
 -- One policy, its answer packed: its offset is short.
 use borrow.Author.Needs.{needs}
-use Rattle.packet_store.proofs.Answering.{answers}
+use Rattle.packing.proofs.Answering.{answers}
 use Rattle.packet_store.proofs.TextOffsets.{short-offset}
 use Rattle.packet_store.proofs.policy_call.packet_store_policy.Statement.{statement}
 use Rattle.packet_store.proofs.policy_call.packet_store_policy.Tie as tie

@@ -1,8 +1,8 @@
 -- One call, the children written, its answer packed.
 use borrow.Author.Needs.{needs}
-use Rattle.packet_store.proofs.Answering.{answers-children}
-use Rattle.packet_store.proofs.relation_reads.packet_store_relation_get.Statement.{statement}
-use Rattle.packet_store.proofs.relation_reads.packet_store_relation_get.Tie as tie
+use Rattle.packet_reads.proofs.Children.{answers-children}
+use Rattle.packet_reads.proofs.relation_reads.packet_store_relation_get.Statement.{statement}
+use Rattle.packet_reads.proofs.relation_reads.packet_store_relation_get.Tie as tie
 
 relation-read-requires : tie.Need-relation-read-requires
 relation-read-requires c κs = search needs

@@ -1,14 +1,15 @@
 // The calls on relations that add nothing, under C names.
 ghost use Rattle.judging.specs.Memory.{memories};
-ghost use Rattle.store.specs.Calls.{relation-read};
+ghost use Rattle.store.specs.Calls.{relation-read, step};
 ghost use Rattle.store.specs.declared.relation_reads.RelationRead.the-variants.{Get, IsZero, Relates};
 ghost use Rattle.packing.specs.Packed.{filled-relation};
-ghost use Rattle.packet_store.specs.Exported.{Answers, AnswersChildren};
+ghost use Rattle.packing.specs.Returns.{Answers};
+ghost use Rattle.packet_reads.specs.Children.{AnswersChildren};
 use store::relation_reads::RelationRead;
 
 // Any of these calls, its answer packed.
 fn packed(relations: &[u32], sets: &[u32], work: &mut [u32], call: RelationRead) -> u64
-    ensures { λ r. ⌜ Answers (relation-read call) (memories (now (relations .entry)) (now (sets .entry)))
+    ensures { λ r. ⌜ Answers (step (relation-read call) (memories (now (relations .entry)) (now (sets .entry))))
         (memories (now (relations .entry)) (now (sets .entry))) (now (work .entry)) (now (work .exit)) r ⌝ }
 {
     packing::pack(store::relation_reads::relation_read(relations, sets, work, call))
@@ -39,7 +40,7 @@ pub extern "C" fn packet_store_relation_is_zero(
     work: &mut [u32],
     a: u32,
 ) -> u64
-    ensures { λ r. ⌜ Answers (relation-read (IsZero a)) (memories (now (relations .entry)) (now (sets .entry)))
+    ensures { λ r. ⌜ Answers (step (relation-read (IsZero a)) (memories (now (relations .entry)) (now (sets .entry))))
         (memories (now (relations .entry)) (now (sets .entry))) (now (work .entry)) (now (work .exit)) r ⌝ }
 {
     packed(relations, sets, work, RelationRead::IsZero(a))
@@ -55,7 +56,7 @@ pub extern "C" fn packet_store_relation_relates(
     input: u32,
     output: u32,
 ) -> u64
-    ensures { λ r. ⌜ Answers (relation-read (Relates a input output)) (memories (now (relations .entry)) (now (sets .entry)))
+    ensures { λ r. ⌜ Answers (step (relation-read (Relates a input output)) (memories (now (relations .entry)) (now (sets .entry))))
         (memories (now (relations .entry)) (now (sets .entry))) (now (work .entry)) (now (work .exit)) r ⌝ }
 {
     packed(

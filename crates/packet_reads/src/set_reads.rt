@@ -1,14 +1,15 @@
 // The calls on sets that add nothing, under C names.
 ghost use Rattle.judging.specs.Memory.{memories};
-ghost use Rattle.store.specs.Calls.{set-read};
+ghost use Rattle.store.specs.Calls.{set-read, step};
 ghost use Rattle.store.specs.declared.set_reads.SetRead.the-variants.{Get, Complement, IsZero, Intersects};
 ghost use Rattle.packing.specs.Packed.{filled-set};
-ghost use Rattle.packet_store.specs.Exported.{Answers, AnswersChildren};
+ghost use Rattle.packing.specs.Returns.{Answers};
+ghost use Rattle.packet_reads.specs.Children.{AnswersChildren};
 use store::set_reads::SetRead;
 
 // Any of these calls, its answer packed.
 fn packed(relations: &[u32], sets: &[u32], work: &mut [u32], call: SetRead) -> u64
-    ensures { λ r. ⌜ Answers (set-read call) (memories (now (relations .entry)) (now (sets .entry)))
+    ensures { λ r. ⌜ Answers (step (set-read call) (memories (now (relations .entry)) (now (sets .entry))))
         (memories (now (relations .entry)) (now (sets .entry))) (now (work .entry)) (now (work .exit)) r ⌝ }
 {
     packing::pack(store::set_reads::set_read(relations, sets, work, call))
@@ -39,7 +40,7 @@ pub extern "C" fn packet_store_set_complement(
     work: &mut [u32],
     a: u32,
 ) -> u64
-    ensures { λ r. ⌜ Answers (set-read (Complement a)) (memories (now (relations .entry)) (now (sets .entry)))
+    ensures { λ r. ⌜ Answers (step (set-read (Complement a)) (memories (now (relations .entry)) (now (sets .entry))))
         (memories (now (relations .entry)) (now (sets .entry))) (now (work .entry)) (now (work .exit)) r ⌝ }
 {
     packed(relations, sets, work, SetRead::Complement(a))
@@ -53,7 +54,7 @@ pub extern "C" fn packet_store_set_is_zero(
     work: &mut [u32],
     a: u32,
 ) -> u64
-    ensures { λ r. ⌜ Answers (set-read (IsZero a)) (memories (now (relations .entry)) (now (sets .entry)))
+    ensures { λ r. ⌜ Answers (step (set-read (IsZero a)) (memories (now (relations .entry)) (now (sets .entry))))
         (memories (now (relations .entry)) (now (sets .entry))) (now (work .entry)) (now (work .exit)) r ⌝ }
 {
     packed(relations, sets, work, SetRead::IsZero(a))
@@ -68,7 +69,7 @@ pub extern "C" fn packet_store_set_intersects(
     a: u32,
     b: u32,
 ) -> u64
-    ensures { λ r. ⌜ Answers (set-read (Intersects a b)) (memories (now (relations .entry)) (now (sets .entry)))
+    ensures { λ r. ⌜ Answers (step (set-read (Intersects a b)) (memories (now (relations .entry)) (now (sets .entry))))
         (memories (now (relations .entry)) (now (sets .entry))) (now (work .entry)) (now (work .exit)) r ⌝ }
 {
     packed(relations, sets, work, SetRead::Intersects(a, b))

@@ -1,8 +1,8 @@
 -- One call, the children written, its answer packed.
 use borrow.Author.Needs.{needs}
-use Rattle.packet_store.proofs.Answering.{answers-children}
-use Rattle.packet_store.proofs.set_reads.packet_store_set_get.Statement.{statement}
-use Rattle.packet_store.proofs.set_reads.packet_store_set_get.Tie as tie
+use Rattle.packet_reads.proofs.Children.{answers-children}
+use Rattle.packet_reads.proofs.set_reads.packet_store_set_get.Statement.{statement}
+use Rattle.packet_reads.proofs.set_reads.packet_store_set_get.Tie as tie
 
 set-read-requires : tie.Need-set-read-requires
 set-read-requires c κs = search needs

@@ -1,0 +1,23 @@
+-- A policy's answer as one number, and what the exported function says of a policy.
+use mathlib.Core.List.{List}
+use Prim.Native.Nat.{ℕ}
+use lib.ListN.{getD}
+use Rattle.judging.specs.Memory.{Memories}
+use Rattle.packing.specs.Packed.{halves}
+use Rattle.packing.specs.Returns.{Returns}
+use Rattle.policies.specs.Answers.{policy-refusal, policy-values}
+use Rattle.policies.specs.Outcome.{policy-step}
+use Rattle.policies.specs.declared.PolicyAnswer.{PolicyAnswer}
+use Rattle.policies.specs.declared.PolicyAnswer.the-variants as policy
+
+abbrev pub packed-policy : PolicyAnswer → ℕ
+packed-policy a = halves (policy-refusal a) (policy-values a)
+
+-- the place in the text that a refusal carries, or 0
+abbrev pub offset : PolicyAnswer → ℕ
+offset (policy.Handle h) = 0
+offset (policy.Declined r) = getD (policy-values (policy.Declined r)) 0 0
+
+-- r, the memories and the working memory after the policy t on the memories M
+abbrev pub AnswersPolicy : List ℕ → Memories → Memories → List ℕ → List ℕ → ℕ → Type 0
+AnswersPolicy t M M′ w w′ r = Returns packed-policy (policy-step t M) M′ w w′ r
