@@ -169,7 +169,9 @@ fn fill(lent: &mut Lent, size: u32, random: &mut Random) {
 
 /// A store of the Rust with the nodes lent.
 fn rust_store(lent: &Lent) -> SPPstore {
-    let relations = lent.relations[RELATION_HEAD..].chunks_exact(4).take(lent.relations[RELATION_COUNT] as usize);
+    let relations = lent.relations[RELATION_HEAD..]
+        .chunks_exact(4)
+        .take(lent.relations[RELATION_COUNT] as usize);
     let sets = lent.sets[SET_HEAD..].chunks_exact(2).take(lent.sets[SET_COUNT] as usize);
     let relation =
         |x: &[u32]| SPPnode { x00: SPP(x[0]), x01: SPP(x[1]), x10: SPP(x[2]), x11: SPP(x[3]) };

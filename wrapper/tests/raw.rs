@@ -1,6 +1,6 @@
 //! What only C sees: null pointers of no length, and children that stay as they are.
 
-use packet_store::{new, set_zero};
+use packet_store::{new, relations_len, set_zero, sets_len};
 use std::ptr::{null, null_mut};
 
 extern "C" {
@@ -92,7 +92,8 @@ fn a_policys_answer_has_two_halves() {
     let (mut relations, mut sets) = ([0; relations_len(3)], [0; sets_len(1)]);
     new(&mut relations, &mut sets, &mut [], 1).unwrap();
     let mut judge = |text: *const u8, len| {
-        let (r, r_len, s, s_len) = (relations.as_mut_ptr(), relations.len(), sets.as_ptr(), sets.len());
+        let (r, r_len, s, s_len) =
+            (relations.as_mut_ptr(), relations.len(), sets.as_ptr(), sets.len());
         // SAFETY: the pointers are those of slices, work has no numbers, and a text of no bytes is not read.
         unsafe { packet_store_policy(r, r_len, s, s_len, null_mut(), 0, text, len) }
     };
