@@ -7,11 +7,15 @@
 
 #define PLACES 4096
 
-static uint32_t relations[2 + 4 * PLACES], sets[1 + 2 * PLACES], work[32768];
+#define RELATIONS_LEN PACKET_STORE_RELATIONS_LEN(PLACES)
+#define SETS_LEN PACKET_STORE_SETS_LEN(PLACES)
+#define WORK_LEN 32768
+
+static uint32_t relations[RELATIONS_LEN], sets[SETS_LEN], work[WORK_LEN];
 
 /* The handle of a table; a refusal ends the program. */
 static uint32_t judge(const char *table) {
-    uint64_t answer = packet_store_policy(relations, 2 + 4 * PLACES, sets, 1 + 2 * PLACES, work, 32768,
+    uint64_t answer = packet_store_policy(relations, RELATIONS_LEN, sets, SETS_LEN, work, WORK_LEN,
                                           (const uint8_t *)table, strlen(table));
     if (PACKET_STORE_REFUSAL(answer) != 0) {
         printf("refused: %u, offset %u\n", PACKET_STORE_REFUSAL(answer), PACKET_STORE_VALUE(answer));
@@ -27,7 +31,7 @@ int main(int count, char **words) {
         fprintf(stderr, "usage: judge K TABLE TABLE, K from 0 to 32\n");
         return 2;
     }
-    packet_store_new(relations, 2 + 4 * PLACES, sets, 1 + 2 * PLACES, work, 32768, (uint32_t)k);
+    packet_store_new(relations, RELATIONS_LEN, sets, SETS_LEN, work, WORK_LEN, (uint32_t)k);
     uint32_t one = judge(words[2]);
     uint32_t other = judge(words[3]);
     puts(one == other ? "equal" : "different");

@@ -12,8 +12,8 @@
  *   sets       the count m of set nodes, then two numbers for each place: x0, x1
  *   work       working memory of any length; with more of it a call is faster, and no answer depends on it
  *
- * Places are the whole nodes that fit, at most 4,096 of each kind: 2 + 4 * 4096 numbers of relations and
- * 1 + 2 * 4096 of sets are never exceeded in use. Numbers beyond the last place are never touched.
+ * Places are the whole nodes that fit, at most 4,096 of each kind: PACKET_STORE_RELATIONS_LEN(4096) numbers of relations
+ * and PACKET_STORE_SETS_LEN(4096) of sets are never exceeded in use. Numbers beyond the last place are never touched.
  * A run of length 0 may have a null pointer. Runs that a function writes must not overlap any other run,
  * and nothing else may use them during the call. The functions keep nothing between calls, allocate
  * nothing and may be called from several threads on different memories.
@@ -44,6 +44,17 @@
 extern "C" {
 #endif
 
+/* How many numbers stand before the nodes, and the places of k and of the counts among them. */
+#define PACKET_STORE_RELATION_HEAD 2
+#define PACKET_STORE_FIELDS 0
+#define PACKET_STORE_RELATION_COUNT 1
+#define PACKET_STORE_SET_HEAD 1
+#define PACKET_STORE_SET_COUNT 0
+
+/* How many numbers so many places need. */
+#define PACKET_STORE_RELATIONS_LEN(places) (PACKET_STORE_RELATION_HEAD + 4 * (places))
+#define PACKET_STORE_SETS_LEN(places) (PACKET_STORE_SET_HEAD + 2 * (places))
+
 /* The numbers of the refusals. */
 #define PACKET_STORE_NOT_STORE 1
 #define PACKET_STORE_NOT_HELD 2
@@ -64,8 +75,8 @@ extern "C" {
 
 /*
  * Begins a store of k fields in both memories, whatever they held: 3k relation nodes and k set nodes, the other
- * places zeroed. Refuses: 5 if k > 32; 1 if relations has fewer than 2 numbers or sets none; 6 if relations has
- * fewer than 3k places or sets fewer than k. Returns the full relation of level k: 3k + 1, or 1 at k = 0.
+ * places zeroed. Refuses: 5 if k > 32; 1 if relations or sets has fewer numbers than its head; 6 if relations
+ * has fewer than 3k places or sets fewer than k. Returns the full relation of level k: 3k + 1, or 1 at k = 0.
  */
 uint64_t packet_store_new(uint32_t *relations, size_t relations_len, uint32_t *sets, size_t sets_len,
                           uint32_t *work, size_t work_len, uint32_t k);

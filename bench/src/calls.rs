@@ -5,6 +5,7 @@ use crate::tables;
 use oracle::policy::{build, judge, Policy};
 use oracle::random::Random;
 use packet_store as library;
+use packet_store::{relations_len, RELATION_COUNT, RELATION_HEAD, SET_COUNT, SET_HEAD};
 use reference::sp::{SPnode, SP};
 use reference::spp::{SPPnode, SPPstore, SPP};
 use std::time::Duration;
@@ -145,7 +146,8 @@ fn fill(lent: &mut Lent, size: u32, random: &mut Random) {
     while lent.count() < size {
         while entered < lent.count() + 2 {
             if entered >= 2 {
-                level_of.push(level_of[lent.relations[4 * entered as usize - 6] as usize] + 1);
+                let child = lent.relations[relations_len(entered as usize - 2)];
+                level_of.push(level_of[child as usize] + 1);
             }
             levels[level_of[entered as usize]].push(entered);
             entered += 1;
@@ -167,12 +169,14 @@ fn fill(lent: &mut Lent, size: u32, random: &mut Random) {
 
 /// A store of the Rust with the nodes lent.
 fn rust_store(lent: &Lent) -> SPPstore {
-    let relations = lent.relations[2..].chunks_exact(4).take(lent.relations[1] as usize);
-    let sets = lent.sets[1..].chunks_exact(2).take(lent.sets[0] as usize);
+    let relations = lent.relations[RELATION_HEAD..]
+        .chunks_exact(4)
+        .take(lent.relations[RELATION_COUNT] as usize);
+    let sets = lent.sets[SET_HEAD..].chunks_exact(2).take(lent.sets[SET_COUNT] as usize);
     let relation =
         |x: &[u32]| SPPnode { x00: SPP(x[0]), x01: SPP(x[1]), x10: SPP(x[2]), x11: SPP(x[3]) };
     let set = |x: &[u32]| SPnode { x0: SP(x[0]), x1: SP(x[1]) };
     let (relations, sets): (Vec<_>, Vec<_>) =
         (relations.map(relation).collect(), sets.map(set).collect());
-    SPPstore::with_nodes(lent.relations[0], &relations, &sets)
+    SPPstore::with_nodes(lent.relations[library::FIELDS], &relations, &sets)
 }

@@ -1,7 +1,7 @@
 //! The two stores that are timed: the proved one in lent memory, and the Rust.
 
 use oracle::policy::{self, Policy};
-use packet_store::{relations_len, sets_len, PolicyRefusal};
+use packet_store::{relations_len, sets_len, PolicyRefusal, RELATION_COUNT};
 use reference::spp::SPPstore;
 use std::time::{Duration, Instant};
 
@@ -38,7 +38,7 @@ impl Lent {
 
     /// How many relation nodes are held.
     pub fn count(&self) -> u32 {
-        self.relations[1]
+        self.relations[RELATION_COUNT]
     }
 }
 

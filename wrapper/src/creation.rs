@@ -6,7 +6,7 @@ use crate::Refusal;
 /// Begins a store of `k` fields in both memories, whatever they held.
 ///
 /// Gives the full relation of level `k`. Refuses with `OutOfRange` if `k` is above 32; `NotStore` if
-/// `relations` has fewer than 2 numbers or `sets` none; `UsedUp` if `relations` has fewer than 3 `k` places
+/// `relations` or `sets` has fewer numbers than its head; `UsedUp` if `relations` has fewer than 3 `k` places
 /// or `sets` fewer than `k`.
 pub fn new(
     relations: &mut [u32],

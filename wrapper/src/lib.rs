@@ -9,7 +9,8 @@
 //! refusals apply, the first in the function's list is given.
 //!
 //! ```
-//! let (mut relations, mut sets) = ([0; 2 + 4 * 16], [0; 1 + 2 * 16]);
+//! use packet_store::{relations_len, sets_len};
+//! let (mut relations, mut sets) = ([0; relations_len(16)], [0; sets_len(16)]);
 //! let mut work = [0; 4096];
 //! packet_store::new(&mut relations, &mut sets, &mut work, 2)?;
 //! let a = packet_store::set_test(&relations, &mut sets, &mut work, 0, 1)?;
@@ -22,6 +23,7 @@
 mod c;
 mod creation;
 mod filter_calls;
+mod head;
 mod image_calls;
 mod lend;
 mod path_reads;
@@ -34,6 +36,7 @@ mod set_reads;
 
 pub use creation::new;
 pub use filter_calls::*;
+pub use head::*;
 pub use image_calls::*;
 pub use path_reads::*;
 pub use policy_call::policy;
@@ -42,13 +45,3 @@ pub use relation_calls::*;
 pub use relation_reads::*;
 pub use set_calls::*;
 pub use set_reads::*;
-
-/// How many numbers `relations` needs for this many places.
-pub const fn relations_len(places: usize) -> usize {
-    2 + 4 * places
-}
-
-/// How many numbers `sets` needs for this many places.
-pub const fn sets_len(places: usize) -> usize {
-    1 + 2 * places
-}

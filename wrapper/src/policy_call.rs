@@ -12,8 +12,8 @@ use crate::PolicyRefusal;
 /// first `!` over `:=` or `*`; `UsedUp`.
 ///
 /// ```
-/// use packet_store::{new, policy, Fault, PolicyRefusal};
-/// let (relations, sets) = (&mut [0; 2 + 4 * 64], &mut [0; 1 + 2 * 4]);
+/// use packet_store::{new, policy, relations_len, sets_len, Fault, PolicyRefusal};
+/// let (relations, sets) = (&mut [0; relations_len(64)], &mut [0; sets_len(4)]);
 /// let mut work = [0; 4096];
 /// new(relations, sets, &mut work, 1)?;
 /// let mut judge = |text| policy(relations, sets, &mut work, text);

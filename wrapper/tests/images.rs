@@ -130,7 +130,7 @@ fn bwd_after_ibwd_is_the_identity() {
             assert_eq!(bench.add_set(|r, s, w| relation_bwd(r, s, w, a)), Ok(p));
         }
     }
-    assert_eq!(bench.sets[0], 10);
+    assert_eq!(bench.sets[SET_COUNT], 10);
 }
 
 #[test]

@@ -18,7 +18,7 @@ fn document_01s_texts_at_one_field() {
     assert_eq!(bench.judge("x0=0+x0=1"), Ok(3));
     assert_eq!(bench.judge("1"), Ok(3));
     assert_eq!(bench.judge("x0=5"), Err(At(NotPolicy, 3)));
-    assert_eq!((bench.relations[1], bench.sets[0]), (5, 1));
+    assert_eq!((bench.relations[RELATION_COUNT], bench.sets[SET_COUNT]), (5, 1));
 }
 
 #[test]
@@ -89,7 +89,7 @@ fn the_stores_own_refusals() {
     assert_eq!(bench.judge("1"), Ok(3));
     assert_eq!(bench.judge("x0=1"), Err(Store(UsedUp)));
     assert_eq!(bench.judge("x1=1"), Err(At(NoField, 0)));
-    bench.relations[1] = 4;
+    bench.relations[RELATION_COUNT] = 4;
     assert_eq!(bench.judge("1"), Err(Store(NotStore)));
     assert_eq!(bench.judge(vec![b'1'; 5000]), Err(Store(NotStore)));
     assert_eq!([NotStore, UsedUp, TooLong].map(|r| Store(r).number()), [1, 6, 10]);

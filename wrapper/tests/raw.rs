@@ -1,6 +1,6 @@
 //! What only C sees: null pointers of no length, and children that stay as they are.
 
-use packet_store::{new, set_zero};
+use packet_store::{new, relations_len, set_zero, sets_len};
 use std::ptr::{null, null_mut};
 
 extern "C" {
@@ -69,7 +69,7 @@ fn ask<const N: usize>(
 
 #[test]
 fn get_writes_the_children_of_an_accepted_call_only() {
-    let (mut relations, mut sets) = ([0; 14], [0; 3]);
+    let (mut relations, mut sets) = ([0; relations_len(3)], [0; sets_len(1)]);
     new(&mut relations, &mut sets, &mut [], 1).unwrap();
     let set = |sets: &[u32], a| ask(packet_store_set_get, &relations, sets, a, [70, 80]);
     assert_eq!(set(&sets, 3), (1, [1, 1]));
@@ -89,12 +89,13 @@ fn get_writes_the_children_of_an_accepted_call_only() {
 
 #[test]
 fn a_policys_answer_has_two_halves() {
-    let (mut relations, mut sets) = ([0; 14], [0; 3]);
+    let (mut relations, mut sets) = ([0; relations_len(3)], [0; sets_len(1)]);
     new(&mut relations, &mut sets, &mut [], 1).unwrap();
     let mut judge = |text: *const u8, len| {
-        let (r, s) = (relations.as_mut_ptr(), sets.as_ptr());
+        let (r, r_len, s, s_len) =
+            (relations.as_mut_ptr(), relations.len(), sets.as_ptr(), sets.len());
         // SAFETY: the pointers are those of slices, work has no numbers, and a text of no bytes is not read.
-        unsafe { packet_store_policy(r, 14, s, 3, null_mut(), 0, text, len) }
+        unsafe { packet_store_policy(r, r_len, s, s_len, null_mut(), 0, text, len) }
     };
     assert_eq!(judge(null(), 0), 7 << 32);
     let text = b"1+x0=5";

@@ -25,7 +25,7 @@ fn handles_at_one_field() {
     assert_eq!(bench.read(|r, s, w| set_is_zero(r, s, w, 4)), Ok(false));
     assert_eq!(bench.read(|r, s, w| set_intersects(r, s, w, 4, 5)), Ok(false));
     assert_eq!(bench.read(|r, s, w| set_intersects(r, s, w, 4, 3)), Ok(true));
-    assert_eq!(bench.sets[..5], [2, 0, 0, 0, 1]);
+    assert_eq!(bench.sets[..sets_len(2)], [2, 0, 0, 0, 1]);
 }
 
 #[test]
@@ -78,7 +78,7 @@ fn memory_that_is_no_store_is_refused() {
 fn a_store_without_constants_builds_them_from_level_0_up() {
     let mut bench = Bench::raw(6, 4);
     bench.relations.fill(0);
-    bench.relations[0] = 2;
+    bench.relations[FIELDS] = 2;
     bench.sets.fill(0);
     assert_eq!(bench.add_set(set_zero), Ok(4));
     assert_eq!(bench.sets, [2, 0, 0, 2, 2, 0, 0, 0, 0]);
@@ -91,7 +91,7 @@ fn the_last_place_is_used_and_no_more() {
         let mut bench = Bench::new(2, 6, places);
         let answer = bench.add_set(|r, s, w| set_test(r, s, w, 1, 1));
         assert_eq!(answer, if places == 4 { Ok(8) } else { Err(UsedUp) });
-        assert_eq!(bench.sets[0], if places == 4 { 4 } else { 2 });
+        assert_eq!(bench.sets[SET_COUNT], if places == 4 { 4 } else { 2 });
     }
 }
 
@@ -102,8 +102,8 @@ fn numbers_beyond_the_last_place_stay() {
     bench.sets.push(14);
     assert_eq!(bench.add_set(|r, s, w| set_test(r, s, w, 0, 1)), Err(UsedUp));
     assert_eq!(bench.open(1), Ok(4));
-    assert_eq!(bench.relations[14..], [11, 12, 13]);
-    assert_eq!(bench.sets[3..], [14]);
+    assert_eq!(bench.relations[relations_len(3)..], [11, 12, 13]);
+    assert_eq!(bench.sets[sets_len(1)..], [14]);
 }
 
 #[test]

@@ -37,7 +37,7 @@ fn p1_to_p14_and_the_calls_beside_them() {
     assert_eq!(bench.add_set(|r, s, w| relation_fwd(r, s, w, 9)), Ok(5));
     assert_eq!(bench.add_set(|r, s, w| relation_bwd(r, s, w, 9)), Ok(4));
     assert_eq!(bench.add_relation(|r, s, w| relation_ifwd(r, s, w, 5)), Ok(8));
-    assert_eq!((bench.relations[1], bench.sets[0]), (11, 2));
+    assert_eq!((bench.relations[RELATION_COUNT], bench.sets[SET_COUNT]), (11, 2));
 }
 
 #[test]
@@ -61,7 +61,7 @@ fn other_calls_on_these_handles() {
     assert_eq!(bench.read(|r, s, w| relation_has_image(r, s, w, 5, 9)), Ok(false));
     assert_eq!(bench.read(|r, s, w| relation_has_path(r, s, w, 4, 9, 5)), Ok(true));
     assert_eq!(bench.read(|r, s, w| relation_has_path(r, s, w, 4, 9, 4)), Ok(false));
-    assert_eq!((bench.relations[1], bench.sets[0]), (11, 2));
+    assert_eq!((bench.relations[RELATION_COUNT], bench.sets[SET_COUNT]), (11, 2));
 }
 
 #[test]
@@ -91,8 +91,9 @@ fn no_fields_need_no_nodes() {
 fn new_makes_the_nodes_of_document_01() {
     let mut bench = Bench::raw(4, 2);
     assert_eq!(bench.open(1), Ok(4));
-    let nodes = [1, 3, 0, 0, 0, 0, 1, 0, 0, 1, 1, 1, 1, 1, 0, 0, 0, 0];
-    assert_eq!(bench.relations, nodes);
+    assert_eq!(bench.relations[..RELATION_HEAD], [1, 3]);
+    let nodes = [0, 0, 0, 0, 1, 0, 0, 1, 1, 1, 1, 1, 0, 0, 0, 0];
+    assert_eq!(bench.relations[RELATION_HEAD..], nodes);
     assert_eq!(bench.sets, [1, 0, 0, 0, 0]);
     assert_eq!(Bench::raw(0, 0).open(0), Ok(1));
     assert_eq!(Bench::raw(96, 32).open(32), Ok(97));
@@ -105,10 +106,10 @@ fn new_refuses_in_order() {
         new(&mut vec![0; relations], &mut vec![0; sets], &mut [], k)
     };
     assert_eq!(empty(0, 0, 33), Err(OutOfRange));
-    assert_eq!(empty(1, 1, 0), Err(NotStore));
-    assert_eq!(empty(2, 0, 0), Err(NotStore));
-    assert_eq!(empty(2, 1, 0), Ok(1));
-    assert_eq!(empty(14, 3, 1), Ok(4));
-    assert_eq!(empty(13, 3, 1), Err(UsedUp));
-    assert_eq!(empty(14, 2, 1), Err(UsedUp));
+    assert_eq!(empty(RELATION_HEAD - 1, SET_HEAD, 0), Err(NotStore));
+    assert_eq!(empty(RELATION_HEAD, SET_HEAD - 1, 0), Err(NotStore));
+    assert_eq!(empty(RELATION_HEAD, SET_HEAD, 0), Ok(1));
+    assert_eq!(empty(relations_len(3), sets_len(1), 1), Ok(4));
+    assert_eq!(empty(relations_len(3) - 1, sets_len(1), 1), Err(UsedUp));
+    assert_eq!(empty(relations_len(3), sets_len(1) - 1, 1), Err(UsedUp));
 }

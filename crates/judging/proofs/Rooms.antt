@@ -1,5 +1,5 @@
 -- Zeros in a part of a memory, and `room?` from them: what the functions of `room` say.
-use mathlib.Core.Path.{_≡_, refl, sym, ap, _∙_}
+use mathlib.Core.Path.{_≡_, sym, ap, _∙_}
 use mathlib.Core.List.{List}
 use mathlib.Core.Bool.{Bool, true, false, _&&_}
 use Prim.Native.Nat.{ℕ, _+_, _-_, _*_, _/_, _<_, _≤_, min}
@@ -9,7 +9,7 @@ use lib.ListN.{length, getD, length-drop}
 use lib.Dec.{eqb, leb}
 use Rattle.nodes.specs.Store.{Kind, set, rel, arity}
 use Rattle.nodes.specs.Programs.{all-below}
-use Rattle.judging.specs.Memory.{head, count, places-in}
+use Rattle.judging.specs.Memory.{head, count-at, count, places-in}
 use Rattle.judging.specs.Valid.{room?}
 use Rattle.judging.proofs.Deciding.{Decided, decided-le, decided-eq, decided-all, decided-true, decided-false}
 use Rattle.judging.proofs.Decide.{room-says}
@@ -30,21 +30,17 @@ all-zeros m s e i a h = sym (decided-true (zeros-say m s (e - s)) (λ j b. h (s 
 pub part-ends : (l c p n : ℕ) → p ≡ min 4096 (l / c) → n ≤ p → (c * n ≤ c * p) × (c * p ≤ l)
 part-ends l c p n e h = let q : p ≤ l / c = omega arith in (mul-le-mul-left c h, omega (arith, mul-le-mul-left c q, mul-div-le l c))
 
--- a memory whose nodes of c numbers begin at start
-module _ (K : Kind) (m : List ℕ) (start c : ℕ) (a : start ≡ head K) (b : c ≡ arity K) where
+-- a memory whose count stands at `at`, and whose nodes of c numbers begin at start
+module _ (K : Kind) (m : List ℕ) (at start c : ℕ) (e : at ≡ count-at K) (a : start ≡ head K) (b : c ≡ arity K) where
   pub no-head : length m < start → false ≡ room? K m
   no-head l = sym (decided-false (room-says K m) (λ R. let h : head K ≤ length m = R .headed in omega (arith, a)))
 
-  module _ (p n : ℕ) (P : p ≡ min 4096 ((length m - start) / c)) (N : n ≡ getD m (start - 1) 0) where
+  module _ (p n : ℕ) (P : p ≡ min 4096 ((length m - start) / c)) (N : n ≡ getD m at 0) where
     places-are : p ≡ places-in K m
     places-are = P ∙ (λ i. min 4096 ((length m - a i) / b i)) ∙ ap (λ l. min 4096 (l / arity K)) (sym (length-drop (head K) m))
 
-    count-at : (K : Kind) → getD m (head K - 1) 0 ≡ count K m
-    count-at set = refl
-    count-at rel = refl
-
     count-is : n ≡ count K m
-    count-is = N ∙ ap (λ s. getD m (s - 1) 0) a ∙ count-at K
+    count-is = N ∙ ap (λ i. getD m i 0) e
 
     pub too-many : p < n → false ≡ room? K m
     too-many l = sym (decided-false (room-says K m) (λ R. let w : count K m ≤ places-in K m = R .within in omega (arith, places-are, count-is)))
@@ -56,10 +52,10 @@ module _ (K : Kind) (m : List ℕ) (start c : ℕ) (a : start ≡ head K) (b : c
     pub room-is : {r : Bool} → start ≤ length m → n ≤ p
         → r ≡ all-below (start + c * p - (start + c * n)) (λ j. eqb (getD m (start + c * n + j) 0) 0) → r ≡ room? K m
     unfolding room?
-    room-is h w e =
+    room-is h w z =
         let f : ℕ → Bool = λ j. eqb (getD m (head K + arity K * count K m + j) 0) 0 in
         let u : leb (head K) (length m) ≡ true = decided-true (decided-le (head K) (length m)) (omega (arith, a)) in
         let v : leb (count K m) (places-in K m) ≡ true = decided-true (decided-le (count K m) (places-in K m)) (omega (arith, places-are, count-is)) in
-        e ∙ (λ i. all-below (a i + b i * places-are i - (a i + b i * count-is i)) (λ j. eqb (getD m (a i + b i * count-is i + j) 0) 0))
+        z ∙ (λ i. all-below (a i + b i * places-are i - (a i + b i * count-is i)) (λ j. eqb (getD m (a i + b i * count-is i + j) 0) 0))
         ∙ ap (λ n. all-below n f) (span K (places-in K m) (count K m))
         ∙ (λ i. sym u i && (sym v i && all-below (arity K * (places-in K m - count K m)) f))

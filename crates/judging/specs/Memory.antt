@@ -16,18 +16,32 @@ abbrev pub memory : Kind → Memories → List ℕ
 memory set M = M .sets
 memory rel M = M .relations
 
+-- THE HEAD of a memory, before its nodes; `src/head.rt` has its lengths and places for the code.
 -- 01: "Relation memory: k, the node count n, then four numbers a node"; "Set memory: the node count m, then two numbers a node"
+abbrev pub heads : Kind → ℕ → ℕ → List ℕ
+heads set k n = n ∷ []
+heads rel k n = k ∷ n ∷ []
+
+-- how many numbers it has
 abbrev pub head : Kind → ℕ
 head set = 1
 head rel = 2
 
+-- the place of the node count
+abbrev pub count-at : Kind → ℕ
+count-at set = 0
+count-at rel = 1
+
+-- the place of k in a relation memory
+abbrev pub fields-at : ℕ
+fields-at = 0
+
 abbrev pub count : Kind → List ℕ → ℕ
-count set m = getD m 0 0
-count rel m = getD m 1 0
+count K m = getD m (count-at K) 0
 
 -- the number k of fields
 abbrev pub fields : Memories → ℕ
-fields M = getD (M .relations) 0 0
+fields M = getD (M .relations) fields-at 0
 
 -- the numbers after the head, and how many nodes fit there
 abbrev pub body : Kind → List ℕ → List ℕ
@@ -55,6 +69,6 @@ write K h N m = h ++ (flat N ++ (replicate (arity K * (places-in K m - length N)
 -- the memories M with the plain store S of k fields written into them
 unfoldable pub encode : ℕ → Store → Memories → Memories
 encode k S M = record {
-  relations = write rel (k ∷ length (S .rels) ∷ []) (S .rels) (M .relations);
-  sets = write set (length (S .sets) ∷ []) (S .sets) (M .sets);
+  relations = write rel (heads rel k (length (S .rels))) (S .rels) (M .relations);
+  sets = write set (heads set k (length (S .sets))) (S .sets) (M .sets);
 }

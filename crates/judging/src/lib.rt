@@ -8,8 +8,14 @@ ghost use Rattle.nodes.specs.Store.{Kind, arity, handle-of};
 ghost use Rattle.nodes.specs.WellFormed.{Even};
 ghost use Rattle.judging.specs.Memory.{memories};
 ghost use Rattle.judging.specs.Judging.{Tests, Earlier, LevelWalked, NodeLevel, FitsNext, Judged, BothJudged, StoreJudged};
+use crate::head::FIELDS;
+use crate::head::RELATION_COUNT;
+use crate::head::RELATION_HEAD;
+use crate::head::SET_COUNT;
+use crate::head::SET_HEAD;
 
 pub mod commit;
+pub mod head;
 pub mod reindex;
 mod room;
 
@@ -153,11 +159,29 @@ pub fn is_store(relations: &[u32], sets: &[u32], work: &mut [u32], last: bool) -
     if !crate::room::heads_fit(relations, sets) {
         return false;
     }
-    let n = memory::wide(relations[1]);
-    let m = memory::wide(sets[0]);
+    let n = memory::wide(relations[RELATION_COUNT]);
+    let m = memory::wide(sets[SET_COUNT]);
     if last {
-        both_fit(&relations[2..], &sets[1..], work, 4, n, 2, m, relations[0])
+        both_fit(
+            &relations[RELATION_HEAD..],
+            &sets[SET_HEAD..],
+            work,
+            4,
+            n,
+            2,
+            m,
+            relations[FIELDS],
+        )
     } else {
-        both_fit(&sets[1..], &relations[2..], work, 2, m, 4, n, relations[0])
+        both_fit(
+            &sets[SET_HEAD..],
+            &relations[RELATION_HEAD..],
+            work,
+            2,
+            m,
+            4,
+            n,
+            relations[FIELDS],
+        )
     }
 }

@@ -5,9 +5,14 @@ ghost use lib.ListN.{length, getD};
 ghost use lib.Dec.{eqb};
 ghost use Rattle.nodes.specs.Store.{Kind, arity};
 ghost use Rattle.nodes.specs.Programs.{all-below};
-ghost use Rattle.judging.specs.Memory.{head, memories};
+ghost use Rattle.judging.specs.Memory.{head, count-at, memories};
 ghost use Rattle.judging.specs.Judging.{Tests, HeadsFit};
 ghost use Rattle.judging.specs.Valid.{room?};
+use crate::head::FIELDS;
+use crate::head::RELATION_COUNT;
+use crate::head::RELATION_HEAD;
+use crate::head::SET_COUNT;
+use crate::head::SET_HEAD;
 
 // Whether the numbers from s to before e are zero.
 fn zeros(m: &[u32], s: usize, e: usize) -> bool
@@ -24,16 +29,16 @@ fn zeros(m: &[u32], s: usize, e: usize) -> bool
     true
 }
 
-// Whether a memory whose nodes of c numbers begin at `start` has room for as many as it says.
-fn has_room(m: &[u32], start: usize, c: usize) -> bool
-    requires { ⌜ (0 < start) × (0 < c) ⌝ }
-    ensures { λ r. ⌜ ((K : Kind) → start ≡ head K → c ≡ arity K → r ≡ room? K (now (m .entry))) ⌝ }
+// Whether a memory whose nodes of c numbers begin at `start` has room for as many as its count says, which stands at `at`.
+fn has_room(m: &[u32], at: usize, start: usize, c: usize) -> bool
+    requires { ⌜ (at < start) × (0 < c) ⌝ }
+    ensures { λ r. ⌜ ((K : Kind) → at ≡ count-at K → start ≡ head K → c ≡ arity K → r ≡ room? K (now (m .entry))) ⌝ }
 {
     if m.len() < start {
         return false;
     }
     let p = memory::places_of(m.len() - start, c);
-    let n = memory::wide(m[start - 1]);
+    let n = memory::wide(m[at]);
     if n > p {
         return false;
     }
@@ -44,11 +49,11 @@ fn has_room(m: &[u32], start: usize, c: usize) -> bool
 pub(crate) fn heads_fit(relations: &[u32], sets: &[u32]) -> bool
     ensures { λ r. ⌜ Tests r (HeadsFit (memories (now (relations .entry)) (now (sets .entry)))) ⌝ }
 {
-    if !has_room(relations, 2, 4) {
+    if !has_room(relations, RELATION_COUNT, RELATION_HEAD, 4) {
         return false;
     }
-    if !has_room(sets, 1, 2) {
+    if !has_room(sets, SET_COUNT, SET_HEAD, 2) {
         return false;
     }
-    relations[0] <= 32
+    relations[FIELDS] <= 32
 }

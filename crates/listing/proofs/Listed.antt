@@ -8,8 +8,8 @@ use lib.Seq.{take-nil, length-take-le}
 use borrow.Author.Tests.{le-leb, lt-leb}
 use Rattle.bytes.specs.Bytes.{indexOf, slice}
 use Rattle.io.specs.Counts.{Counts}
-use Rattle.nodes.specs.Store.{pick}
-use Rattle.judging.specs.Memory.{Memories, memories}
+use Rattle.nodes.specs.Store.{set, rel, arity, pick}
+use Rattle.judging.specs.Memory.{Memories, memories, head}
 use Rattle.policies.specs.Outcome.{policy-step}
 use Rattle.policies.specs.declared.PolicyAnswer.{PolicyAnswer}
 use Rattle.outcomes.specs.OnMemories.{new-step}
@@ -49,7 +49,7 @@ no-more i M at o x from past = ap (λ (l : List ℕ). take at o ++ policy-lines 
 
 -- THE WHOLE, where k is right
 pub whole : (k n r s : ℕ) (ts : List (List ℕ)) (M M′ : Memories) (a b e : ℕ) (o o′ o″ o‴ : List ℕ)
-    → r ≡ 2 + 4 * 2048 → s ≡ 1 + 2 * 2048 → M ≡ new-step k (zeroed r s) .state → AddsFew 64 0 (first-line k) o o′ a
+    → r ≡ head rel + arity rel * 2048 → s ≡ head set + arity set * 2048 → M ≡ new-step k (zeroed r s) .state → AddsFew 64 0 (first-line k) o o′ a
     → PolicyLines n ts M M′ a o′ o″ b → AddsFew 64 b (last-line M′) o″ o‴ e → take e o‴ ≡ listed (Is k) ts
 unfolding listed
 whole k n r s ts M M′ a b e o o′ o″ o‴ er es begun first all last =

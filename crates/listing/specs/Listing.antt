@@ -4,8 +4,8 @@ use mathlib.Core.List.{List, [], _∷_, _++_}
 use Prim.Native.Nat.{ℕ, _+_, _-_, _*_}
 use lib.Dec.{leb, eqb}
 use lib.ListN.{length, replicate}
-use Rattle.nodes.specs.Store.{set, rel, pick}
-use Rattle.judging.specs.Memory.{Memories, memories, count}
+use Rattle.nodes.specs.Store.{set, rel, arity, pick}
+use Rattle.judging.specs.Memory.{Memories, memories, head, count}
 use Rattle.outcomes.specs.OnMemories.{new-step}
 use Rattle.texts.specs.XForms.{digit?}
 use Rattle.policies.specs.Answers.{policy-number, policy-values}
@@ -72,7 +72,7 @@ bad-k = 98 ∷ 97 ∷ 100 ∷ 32 ∷ 107 ∷ 10 ∷ []
 
 -- `bad k` alone, or all lines
 unfoldable pub listed : Width → List (List ℕ) → List ℕ
-listed (Is k) ts = first-line k ++ policy-lines 1 ts (new-step k (zeroed (2 + 4 * 2048) (1 + 2 * 2048)) .state)
+listed (Is k) ts = first-line k ++ policy-lines 1 ts (new-step k (zeroed (head rel + arity rel * 2048) (head set + arity set * 2048)) .state)
 listed Bad ts = bad-k
 
 -- a policy a line after the first; where there is none, `bad k`

@@ -4,16 +4,24 @@ ghost use lib.ListN.{take};
 ghost use Rattle.io.specs.Counts.{Counts};
 ghost use Rattle.listing.specs.Listing.{listing};
 use crate::fields::Width;
+use judging::head::RELATION_HEAD;
+use judging::head::SET_HEAD;
 
 mod fields;
 mod lines;
 mod writing;
 
+// The numbers of relation memory with 2,048 places.
+pub const RELATIONS: usize = RELATION_HEAD + 4 * 2048;
+
+// The numbers of set memory with as many.
+pub const SETS: usize = SET_HEAD + 2 * 2048;
+
 // Writes the listing of the input to the start of `out`, on memories of 2,048 places of each kind, and answers its length.
 pub fn list(
     input: &[u8],
-    relations: &mut [u32; 8194],
-    sets: &mut [u32; 4097],
+    relations: &mut [u32; RELATIONS],
+    sets: &mut [u32; SETS],
     work: &mut [u32],
     out: &mut [u8; 1048704],
 ) -> usize
@@ -35,8 +43,8 @@ pub fn list(
 pub fn run(file: i32) {
     let mut input = [0u8; 16385];
     let n = io::read_full(file, &mut input);
-    let mut relations = [0u32; 8194];
-    let mut sets = [0u32; 4097];
+    let mut relations = [0u32; RELATIONS];
+    let mut sets = [0u32; SETS];
     let mut work = [0u32; 65536];
     let mut out = [0u8; 1048704];
     let r = list(&input[..n], &mut relations, &mut sets, &mut work, &mut out);

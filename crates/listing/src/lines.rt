@@ -2,12 +2,15 @@
 ghost use mathlib.Core.Path.{_≡_};
 ghost use Prim.Native.Nat.{_+_, _-_, _*_, _<_, _≤_};
 ghost use lib.ListN.{length, take, drop};
-ghost use Rattle.judging.specs.Memory.{memories};
+ghost use Rattle.nodes.specs.Store.{set, rel, arity};
+ghost use Rattle.judging.specs.Memory.{memories, head};
 ghost use Rattle.outcomes.specs.OnMemories.{new-step};
 ghost use Rattle.listing.specs.Lines.{lines};
 ghost use Rattle.listing.specs.Listing.{zeroed, listed};
 ghost use Rattle.listing.specs.Writing.{PolicyLine, PolicyLines};
 ghost use Rattle.listing.specs.declared.fields.Width.the-variants.{Is};
+use judging::head::RELATION_COUNT;
+use judging::head::SET_COUNT;
 
 // A new store of k fields.
 fn begin(relations: &mut [u32], sets: &mut [u32], work: &mut [u32], k: u32)
@@ -75,12 +78,12 @@ pub(crate) fn write(
     out: &mut [u8],
 ) -> usize
     requires { ⌜ (0 < start) × (128 + 64 * (length (now input) - start) ≤ length (now out))
-        × (length (now relations) ≡ 2 + 4 * 2048) × (length (now sets) ≡ 1 + 2 * 2048) ⌝ }
+        × (length (now relations) ≡ head rel + arity rel * 2048) × (length (now sets) ≡ head set + arity set * 2048) ⌝ }
     ensures { λ r. ⌜ r ≤ length (now (out .entry)) ⌝ }
     ensures { λ r. ⌜ take r (now (out .exit)) ≡ listed (Is k) (lines (drop start (now (input .entry)))) ⌝ }
 {
     begin(relations, sets, work, k);
     let first = crate::writing::first_line(out, k);
     let end = policy_lines(input, start, relations, sets, work, out, first);
-    crate::writing::nodes_line(out, end, relations[1], sets[0])
+    crate::writing::nodes_line(out, end, relations[RELATION_COUNT], sets[SET_COUNT])
 }

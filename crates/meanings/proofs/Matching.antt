@@ -2,38 +2,24 @@
 use mathlib.Core.Path.{_≡_, refl, ap, _∙_, subst}
 use Prim.Native.Nat.{ℕ, _≤_}
 use lib.ListN.{length}
-use Rattle.nodes.specs.Store.{Kind, set, rel, Store, nodes}
+use Rattle.nodes.specs.Store.{Kind, Store, nodes}
 use Rattle.nodes.specs.WellFormed.{WellFormed}
-use Rattle.nodes.proofs.Canonical.{formed-sized}
 use Rattle.meanings.specs.Lists.{Matches}
 use Rattle.meanings.specs.PlainStore.{Plain, plain-store}
-use Rattle.judging.specs.Memory.{Memories, memory, head, count, places-in, decode, write, encode}
-use Rattle.outcomes.proofs.Encoding.{write-length, heads, encode-memory, encode-fields, Space, decode-encode, encode-places, encode-store, encode-encode}
+use Rattle.judging.specs.Memory.{Memories, memory, head, count, places-in, decode, encode}
+use Rattle.outcomes.proofs.Encoding.{encode-count, encode-fields, Space, decode-encode, encode-length, encode-places, encode-store, encode-encode}
 
 -- a store that fits, written over M₀
 module _ {k : ℕ} {S : Store} {M₀ : Memories} (F : WellFormed k S) (p : Space S M₀) where
-  encode-length : (K : Kind) → length (memory K (encode k S M₀)) ≡ length (memory K M₀)
-  encode-length K = ap length (encode-memory K k S M₀)
-      ∙ write-length K (heads K k (nodes K S)) (nodes K S) (memory K M₀) (long K) (record { each = formed-sized K F .each }) (p .within K) (p .headed K)
-    where
-      long : (K : Kind) → length (heads K k (nodes K S)) ≡ head K
-      long set = refl
-      long rel = refl
-
   pub matches-written : k ≤ 32 → Matches M₀ (encode k S M₀) (plain-store k S)
   matches-written few = record {
     store = encode-store F p few;
-    long = encode-length;
+    long = λ K. encode-length F p K k;
     places = λ K. encode-places F p K k;
     width = encode-fields k S M₀;
     lists = decode-encode M₀ k F;
     written = refl;
   }
-
-pub encode-count : (K : Kind) (k : ℕ) (S : Store) (M : Memories) → count K (memory K (encode k S M)) ≡ length (nodes K S)
-unfolding encode write
-encode-count set k S M = refl
-encode-count rel k S M = refl
 
 module _ {M₀ M : Memories} {P : Plain} (A : Matches M₀ M P) where
   pub matches-formed : WellFormed (P .width) (P .lists)
@@ -49,7 +35,7 @@ module _ {M₀ M : Memories} {P : Plain} (A : Matches M₀ M P) where
   matches-space = record {
     headed = matches-headed;
     within = λ K. subst (λ n. length (nodes K (P .lists)) ≤ n) (A .places K) (subst (λ n. n ≤ places-in K (memory K M))
-        (ap (λ M. count K (memory K M)) (A .written) ∙ encode-count K (P .width) (P .lists) M₀) (A .store .room K .within));
+        (ap (λ M. count K (memory K M)) (A .written) ∙ encode-count (P .width) (P .lists) M₀ K) (A .store .room K .within));
   }
 
   -- the next store written over it

@@ -25,8 +25,8 @@ use Rattle.meanings.proofs.OneCall.{not-handle, fits-space}
 
 heads-there : (M : Memories) → heads? M ≡ true → (K : Kind) → head K ≤ length (memory K M)
 heads-there M e =
-    let u = and-T (leb 2 (length (M .relations))) (leb 1 (length (M .sets))) (subst T (sym e) tt) in
-    elim [ set ↦ leb→le 1 (length (M .sets)) (u .1) | rel ↦ leb→le 2 (length (M .relations)) (u .0) ]
+    let u = and-T (leb (head rel) (length (M .relations))) (leb (head set) (length (M .sets))) (subst T (sym e) tt) in
+    elim [ set ↦ leb→le (head set) (length (M .sets)) (u .1) | rel ↦ leb→le (head rel) (length (M .relations)) (u .0) ]
 
 module _ (k : ℕ) (M : Memories) (h : ℕ) where
   abbrev made : Ran

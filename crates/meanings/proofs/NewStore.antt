@@ -27,7 +27,8 @@ use Rattle.meanings.specs.Lists.{Matches}
 use Rattle.meanings.specs.NewStore.{There, NewRight}
 use Rattle.meanings.specs.PlainStore.{Plain, plain-store, on-lists, plain-step, begun}
 use Rattle.meanings.proofs.CallMeans.{set-call-means, relation-call-means}
-use Rattle.meanings.proofs.Matching.{encode-count, matches-space}
+use Rattle.outcomes.proofs.Encoding.{encode-count}
+use Rattle.meanings.proofs.Matching.{matches-space}
 use Rattle.meanings.proofs.NewMatches.{new-matches}
 use Rattle.meanings.proofs.OneCall.{call-right}
 
@@ -114,7 +115,7 @@ module _ (k : ℕ) (M : Memories) (h : ℕ) (e : step (new-store k) M .answer �
       handles e = cc e
 
   counted : (K : Kind) → count K (memory K M′) ≡ length (nodes K S)
-  counted K = ap (λ X. count K (memory K X)) (A .written) ∙ encode-count K k S M
+  counted K = ap (λ X. count K (memory K X)) (A .written) ∙ encode-count k S M K
 
   -- a call that runs a part of `new`; Q is what its handle means in a store of as many fields
   there : (c : Call) (Q : ℕ → Store → ℕ → Type 0) (p : Prog) (r : ℕ) → Settled p S r

@@ -15,11 +15,11 @@ use Rattle.nodes.specs.Programs.{agrees, run}
 use Rattle.nodes.specs.Recursion.{node1, op1, node2, op2}
 use Rattle.nodes.specs.Relations.{sequence, star, flip, naive-forward, backward}
 use Rattle.nodes.specs.Sets.{ifelse, intersects}
-use Rattle.nodes.specs.Store.{get, place, having, mk-store, mk-handle}
+use Rattle.nodes.specs.Store.{set, rel, arity, get, place, having, mk-store, mk-handle}
 use Rattle.nodes.specs.WellFormed.{level-of}
 use Rattle.nodes.proofs.Bools.{and-T}
 use Rattle.nodes.proofs.New.{new-value}
-use Rattle.judging.specs.Memory.{Memories}
+use Rattle.judging.specs.Memory.{Memories, head}
 use Rattle.outcomes.specs.OnMemories.{set-places, rel-places, new-step}
 use Rattle.outcomes.specs.Outcome.{provided, also, of-one, of-pair, of-path, of-four, told, concludes}
 use Rattle.outcomes.specs.declared.Answer.the-variants.{Handle, Declined}
@@ -73,13 +73,13 @@ new-gives (suc k) = new-value (suc k) (omega arith)
 
 -- ON MEMORIES of a numbers for relations and b for sets: how many nodes these hold, and whether `new k` is accepted there
 abbrev rels-in : ℕ → ℕ
-rels-in a = min 4096 ((a - 2) / 4)
+rels-in a = min 4096 ((a - head rel) / arity rel)
 
 abbrev sets-in : ℕ → ℕ
-sets-in b = min 4096 ((b - 1) / 2)
+sets-in b = min 4096 ((b - head set) / arity set)
 
 abbrev enough? : ℕ → ℕ → ℕ → Bool
-enough? k a b = leb k 32 && (leb 2 a && (leb 1 b && (leb (3 * k) (rels-in a) && leb k (sets-in b))))
+enough? k a b = leb k 32 && (leb (head rel) a && (leb (head set) b && (leb (3 * k) (rels-in a) && leb k (sets-in b))))
 
 -- a table that begins with an accepted `new`
 module _ (k a b : ℕ) (t : List Row) (enough : enough? k a b ≡ true) (plain : Plainly k (sets-in b) (rels-in a) t) where
@@ -87,8 +87,8 @@ module _ (k a b : ℕ) (t : List Row) (enough : enough? k a b ≡ true) (plain :
   unfolding step
   accepted M ea eb =
       let u = and-T (leb k 32) _ (subst T (sym enough) tt) in
-      let v = and-T (leb 2 a) _ (u .1) in
-      let w = and-T (leb 1 b) _ (v .1) in
+      let v = and-T (leb (head rel) a) _ (u .1) in
+      let w = and-T (leb (head set) b) _ (v .1) in
       let x = and-T (leb (3 * k) (rels-in a)) _ (w .1) in
       ap (λ r. r .answer) (sym (fits-new k a b M ea eb (leb→le _ _ (u .0)) (leb→le _ _ (v .0)) (leb→le _ _ (w .0)) (leb→le _ _ (x .0)) (leb→le _ _ (x .1))))
       ∙ ap Handle (new-gives k)
@@ -97,8 +97,8 @@ module _ (k a b : ℕ) (t : List Row) (enough : enough? k a b ≡ true) (plain :
   unfolding in-turn any-step
   begins M ea eb =
       let e = accepted M ea eb in
-      let m : set-places M ≡ sets-in b = ap (λ l. min 4096 (l / 2)) (length-drop 1 (M .sets) ∙ ap (λ l. l - 1) eb) in
-      let n : rel-places M ≡ rels-in a = ap (λ l. min 4096 (l / 4)) (length-drop 2 (M .relations) ∙ ap (λ l. l - 2) ea) in
+      let m : set-places M ≡ sets-in b = ap (λ l. min 4096 (l / arity set)) (length-drop (head set) (M .sets) ∙ ap (λ l. l - head set) eb) in
+      let n : rel-places M ≡ rels-in a = ap (λ l. min 4096 (l / arity rel)) (length-drop (head rel) (M .relations) ∙ ap (λ l. l - head rel) ea) in
       let cs = map (λ w. w .0) t in
       let later = lists-right all-calls (λ M₀ M P A c. any-right A c) k M (top-of k) e cs .answers
       ∙ (λ i. plain-steps all-calls (m i) (n i) cs (begun k) .answers) ∙ plain in

@@ -2,7 +2,7 @@
 -- though a `new` is accepted.
 use mathlib.Core.Path.{_≡_, refl, sym, ap, _∙_}
 use mathlib.Core.List.{List, [], _∷_, _++_}
-use Prim.Native.Nat.{ℕ, _<_}
+use Prim.Native.Nat.{ℕ, _+_, _*_, _<_}
 use native.Mathlib.Omega.{arith}
 use lib.Dec.{T}
 use lib.ListN.{replicate}
@@ -10,7 +10,7 @@ use Rattle.nodes.specs.Images.{new}
 use Rattle.nodes.specs.Operations.{constant, identity-at-depth, raise, test}
 use Rattle.nodes.specs.Places.{fits-places}
 use Rattle.nodes.specs.Programs.{Prog, run}
-use Rattle.nodes.specs.Store.{set, rel, Store, child, pick, get, place, having, mk-store, mk-handle}
+use Rattle.nodes.specs.Store.{set, rel, arity, Store, child, pick, get, place, having, mk-store, mk-handle}
 use Rattle.nodes.specs.WellFormed.{Held}
 use Rattle.nodes.proofs.Bools.{by-test, on-bits}
 use Rattle.nodes.proofs.Bounded.{fits-places-iff}
@@ -18,7 +18,7 @@ use Rattle.store.specs.Calls.{Call, new-store, set-call, step}
 use Rattle.outcomes.specs.OnMemories.{set-places, rel-places, new-step}
 use Rattle.meanings.specs.Lists.{in-turn, plain-steps, Matches, HandlesLast, store-calls, after-new}
 use Rattle.meanings.specs.PlainStore.{Plain, plain-store, asked, on-lists, plain-step, begun}
-use Rattle.judging.specs.Memory.{Memories, memories, decode}
+use Rattle.judging.specs.Memory.{Memories, memories, head, decode}
 use Rattle.outcomes.specs.Outcome.{Verdict, runs, handle-of, provided, told, concludes}
 use Rattle.outcomes.specs.declared.Answer.{Answer}
 use Rattle.outcomes.specs.declared.Answer.the-variants.{Handle, Declined}
@@ -41,9 +41,10 @@ kept-nodes {M₀} {M} P v p e q A =
     (fits-places m n S) (λ _ _ q. not-handle (sym q)) (λ _ t q. t) t
     (ap (λ u. concludes (Declined UsedUp) m n u (P .lists) P (plain-store (P .width)) .answer) (sym e) ∙ q)
 
--- LASTING HANDLES. In a store of one field, a test of it and then another `new`: the test's handle 4 is held, and then not
+-- LASTING HANDLES. In a store of one field, a test of it and then another `new`: the test's handle 4 is held, and then not;
+-- three places for relations and two for sets suffice
 abbrev lent : Memories
-lent = memories (replicate 14 0) (replicate 5 0)
+lent = memories (replicate (head rel + arity rel * 3) 0) (replicate (head set + arity set * 2) 0)
 
 abbrev tested : List Call
 tested = set-call (Test 0 1) ∷ []

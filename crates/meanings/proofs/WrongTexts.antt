@@ -2,7 +2,7 @@
 use mathlib.Core.Path.{_≡_, refl, sym, ap, _∙_, subst}
 use mathlib.Core.Logic.{inr}
 use mathlib.Core.List.{List, [], _∷_, _++_}
-use Prim.Native.Nat.{ℕ}
+use Prim.Native.Nat.{ℕ, _+_, _*_}
 use native.Mathlib.Omega.{arith}
 use lib.ListN.{replicate}
 use Rattle.nodes.specs.Images.{new}
@@ -10,9 +10,9 @@ use Rattle.nodes.specs.Operations.{constant, identity-at-depth}
 use Rattle.nodes.specs.Packets.{none, more, Packet}
 use Rattle.nodes.specs.Policies.{Policy, fail, skip, tests, assigns, negates, plus, seq, stars, meaning, fields-below?, negates-predicates?, policy-program}
 use Rattle.nodes.specs.Programs.{run}
-use Rattle.nodes.specs.Store.{get, place, having, mk-store, mk-handle}
+use Rattle.nodes.specs.Store.{set, rel, arity, get, place, having, mk-store, mk-handle}
 use Rattle.nodes.specs.Meaning.{Same}
-use Rattle.judging.specs.Memory.{Memories, memories}
+use Rattle.judging.specs.Memory.{Memories, memories, head}
 use Rattle.store.specs.Calls.{new-store, step}
 use Rattle.meanings.specs.Lists.{in-turn}
 use Rattle.outcomes.specs.OnMemories.{new-step}
@@ -31,9 +31,9 @@ use Rattle.meanings.proofs.Histories.{made}
 use Rattle.meanings.proofs.OneText.{tree-relates}
 use Rattle.meanings.proofs.KeptTexts.{not-handle}
 
--- a store of one field with three places for relations, as `new` fills it
+-- a store of one field with three places for relations and one for sets, as `new` fills it
 abbrev lent : Memories
-lent = memories (replicate 14 0) (replicate 3 0)
+lent = memories (replicate (head rel + arity rel * 3) 0) (replicate (head set + arity set * 1) 0)
 
 accepted : step (new-store 1) lent .answer ≡ store.Handle 4
 unfolding step new-step concludes provided run new constant identity-at-depth get place having mk-store mk-handle

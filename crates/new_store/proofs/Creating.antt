@@ -14,9 +14,8 @@ use Rattle.nodes.specs.Places.{fits-places}
 use Rattle.nodes.specs.Images.{blank, new}
 use Rattle.nodes.proofs.New.{blank-formed, new-counts}
 use Rattle.outcomes.specs.OnMemories.{set-places, rel-places, heads?, new-declines, new-step}
-use Rattle.new_store.specs.Creating.{NewChecked, Begun, Created}
-use Rattle.judging.specs.Commit.{cleared}
-use Rattle.judging.specs.Memory.{Memories, memories, memory, head, fields, places-in, flat, write, encode}
+use Rattle.new_store.specs.Creating.{places-for, NewChecked, emptied, Begun, Created}
+use Rattle.judging.specs.Memory.{Memories, memories, memory, head, count-at, fields-at, fields, places-in, flat, write, encode}
 use Rattle.outcomes.specs.Outcome.{runs, going, handle-of, provided, told, concludes}
 use Rattle.outcomes.specs.declared.Answer.{Answer}
 use Rattle.outcomes.specs.declared.Check.{Check}
@@ -28,7 +27,7 @@ use Rattle.outcomes.proofs.Handles.{provided-yes, provided-no}
 use Rattle.outcomes.proofs.Outcomes.{recount, put-count, and-false}
 
 -- the places by the lengths
-places-by : (K : Kind) (m : List ℕ) → min 4096 ((length m - head K) / arity K) ≡ places-in K m
+places-by : (K : Kind) (m : List ℕ) → places-for K (length m) ≡ places-in K m
 places-by K m = ap (λ l. min 4096 (l / arity K)) (sym (length-drop (head K) m))
 
 -- WHAT IT DECLINES
@@ -72,31 +71,35 @@ module _ (k : ℕ) (M : Memories) where
 
 -- the same by the lengths a and b of the memories, p places for relations and q for sets
 module _ (k a b : ℕ) (M : Memories) (ea : length (M .relations) ≡ a) (eb : length (M .sets) ≡ b) (few : k ≤ 32) where
-  pub short-relations : a < 2 → told (Declined NotStore) M ≡ new-step k M
-  short-relations h = new-short k M few (rw (lt-leb 2 (length (M .relations)) (subst (λ n. n < 2) (sym ea) h)))
+  pub short-relations : a < head rel → told (Declined NotStore) M ≡ new-step k M
+  short-relations h = new-short k M few (rw (lt-leb (head rel) (length (M .relations)) (subst (λ n. n < head rel) (sym ea) h)))
 
-  pub short-sets : b < 1 → told (Declined NotStore) M ≡ new-step k M
-  short-sets h = new-short k M few (and-false (leb 2 (length (M .relations))) _ (lt-leb 1 (length (M .sets)) (subst (λ n. n < 1) (sym eb) h)))
+  pub short-sets : b < head set → told (Declined NotStore) M ≡ new-step k M
+  short-sets h = new-short k M few (and-false (leb (head rel) (length (M .relations))) _
+      (lt-leb (head set) (length (M .sets)) (subst (λ n. n < head set) (sym eb) h)))
 
-  module _ (h : 2 ≤ a) (g : 1 ≤ b) where
+  module _ (h : head rel ≤ a) (g : head set ≤ b) where
     headed : heads? M ≡ true
-    headed = rw (le-leb 2 (length (M .relations)) (subst (λ n. 2 ≤ n) (sym ea) h), le-leb 1 (length (M .sets)) (subst (λ n. 1 ≤ n) (sym eb) g))
+    headed = rw (
+      le-leb (head rel) (length (M .relations)) (subst (λ n. head rel ≤ n) (sym ea) h),
+      le-leb (head set) (length (M .sets)) (subst (λ n. head set ≤ n) (sym eb) g),
+    )
 
-    places-relations : (p : ℕ) → p ≡ min 4096 ((a - 2) / 4) → p ≡ rel-places M
-    places-relations p e = e ∙ ap (λ n. min 4096 ((n - 2) / 4)) (sym ea) ∙ places-by rel (M .relations)
+    places-relations : (p : ℕ) → p ≡ places-for rel a → p ≡ rel-places M
+    places-relations p e = e ∙ ap (places-for rel) (sym ea) ∙ places-by rel (M .relations)
 
-    places-sets : (q : ℕ) → q ≡ min 4096 ((b - 1) / 2) → q ≡ set-places M
-    places-sets q e = e ∙ ap (λ n. min 4096 ((n - 1) / 2)) (sym eb) ∙ places-by set (M .sets)
+    places-sets : (q : ℕ) → q ≡ places-for set b → q ≡ set-places M
+    places-sets q e = e ∙ ap (places-for set) (sym eb) ∙ places-by set (M .sets)
 
-    pub full-relations : (p n : ℕ) → n ≡ k → p ≡ min 4096 ((a - 2) / 4) → p < 3 * n → told (Declined UsedUp) M ≡ new-step k M
+    pub full-relations : (p n : ℕ) → n ≡ k → p ≡ places-for rel a → p < 3 * n → told (Declined UsedUp) M ≡ new-step k M
     full-relations p n en e l =
         let q = places-relations p e in
         new-full k M few headed (and-false (leb k (set-places M)) _ (lt-leb (3 * k) (rel-places M) (omega (arith, q, en))))
 
-    pub full-sets : (q n : ℕ) → n ≡ k → q ≡ min 4096 ((b - 1) / 2) → q < n → told (Declined UsedUp) M ≡ new-step k M
+    pub full-sets : (q n : ℕ) → n ≡ k → q ≡ places-for set b → q < n → told (Declined UsedUp) M ≡ new-step k M
     full-sets q n en e l = let p = places-sets q e in let u = lt-leb k (set-places M) (omega (arith, p, en)) in new-full k M few headed (rw u)
 
-    pub fits-new : 3 * k ≤ min 4096 ((a - 2) / 4) → k ≤ min 4096 ((b - 1) / 2)
+    pub fits-new : 3 * k ≤ places-for rel a → k ≤ places-for set b
         → told (Handle (run (new k) blank .value)) (encode k (run (new k) blank .store) M) ≡ new-step k M
     fits-new l m =
         let p = places-relations _ refl in
@@ -106,33 +109,34 @@ module _ (k a b : ℕ) (M : Memories) (ea : length (M .relations) ≡ a) (eb : l
         new-fits k M few headed (rw (u, v))
 
 -- NO NODE: the memory of one kind, its places zero and its count 0
-begun-one : (K : Kind) (m : List ℕ) (p : ℕ) → head K ≤ length m → p ≡ places-in K m
-    → put (cleared (head K) (head K + arity K * p) m) (head K - 1) 0 ≡ write K (recount K m 0) [] m
+begun-one : (K : Kind) (m : List ℕ) → head K ≤ length m → emptied (count-at K) (head K) (arity K) m ≡ write K (recount K m 0) [] m
 unfolding write flat
-begun-one K m p h e =
+begun-one K m h =
+    let p = places-for K (length m) in
     let c : head K + arity K * p - head K ≡ arity K * p = omega arith in
-    let z : arity K * p ≡ arity K * (places-in K m - 0) = ap (λ j. arity K * j) (e ∙ (let q : places-in K m ≡ places-in K m - 0 = omega arith in q)) in
+    let q : places-in K m ≡ places-in K m - 0 = omega arith in
+    let z : arity K * p ≡ arity K * (places-in K m - 0) = ap (λ j. arity K * j) (places-by K m ∙ q) in
     put-count K m _ 0 h
     ∙ ap (λ j. recount K m 0 ++ (replicate j 0 ++ drop j (drop (head K) m))) c
     ∙ ap (λ x. recount K m 0 ++ (replicate (arity K * p) 0 ++ x)) (drop-drop (arity K * p) (head K) m)
-    ∙ (λ i. recount K m 0 ++ (replicate (z i) 0 ++ drop (head K + arity K * e i) m))
+    ∙ (λ i. recount K m 0 ++ (replicate (z i) 0 ++ drop (head K + arity K * places-by K m i) m))
 
 -- what `begin` leaves in both memories, and the number of fields written
-pub begun-both : (M : Memories) (k : ℕ) (r s : List ℕ) → 2 ≤ length (M .relations) → 1 ≤ length (M .sets)
-    → r ≡ put (cleared 2 (2 + 4 * min 4096 ((length (M .relations) - 2) / 4)) (M .relations)) 1 0
-    → s ≡ put (cleared 1 (1 + 2 * min 4096 ((length (M .sets) - 1) / 2)) (M .sets)) 0 0 → memories (put r 0 k) s ≡ encode k blank M
+pub begun-both : (M : Memories) (k : ℕ) (r s : List ℕ) → head rel ≤ length (M .relations) → head set ≤ length (M .sets)
+    → r ≡ emptied (count-at rel) (head rel) (arity rel) (M .relations) → s ≡ emptied (count-at set) (head set) (arity set) (M .sets)
+    → memories (put r fields-at k) s ≡ encode k blank M
 unfolding encode write
 begun-both M k r s h g e f i = record {
-  relations = (ap (λ x. put x 0 k) (e ∙ begun-one rel (M .relations) _ h (places-by rel (M .relations)))) i;
-  sets = (f ∙ begun-one set (M .sets) _ g (places-by set (M .sets))) i;
+  relations = (ap (λ x. put x fields-at k) (e ∙ begun-one rel (M .relations) h)) i;
+  sets = (f ∙ begun-one set (M .sets) g) i;
 }
 
-blank-space : {M : Memories} → 2 ≤ length (M .relations) → 1 ≤ length (M .sets) → Space blank M
+blank-space : {M : Memories} → head rel ≤ length (M .relations) → head set ≤ length (M .sets) → Space blank M
 blank-space h g = record { headed = elim [ set ↦ g | rel ↦ h ]; within = elim [ set ↦ omega arith | rel ↦ omega arith ] }
 
 -- so begins the store of k fields
-pub begun : {k : ℕ} {w : List ℕ} (M : Memories) → k ≤ 32 → 2 ≤ length (M .relations) → 1 ≤ length (M .sets)
-    → 3 * k ≤ min 4096 ((length (M .relations) - 2) / 4) → k ≤ min 4096 ((length (M .sets) - 1) / 2) → w ≡ replicate (length w) 0
+pub begun : {k : ℕ} {w : List ℕ} (M : Memories) → k ≤ 32 → head rel ≤ length (M .relations) → head set ≤ length (M .sets)
+    → 3 * k ≤ places-for rel (length (M .relations)) → k ≤ places-for set (length (M .sets)) → w ≡ replicate (length w) 0
     → Begun k (encode k blank M) w
 begun {k} M few h g p q z = record {
   store = encode-store (blank-formed k) (blank-space h g) few;
@@ -145,19 +149,18 @@ begun {k} M few h g p q z = record {
 
 -- `new` that goes on: r and s are the memories that `begin` left
 module _ (M : Memories) (k l n : ℕ) (t : NewChecked (length (M .relations)) (length (M .sets)) k (Level l)) (en : n ≡ l) (r s : List ℕ)
-    (er : r ≡ put (cleared 2 (2 + 4 * min 4096 ((length (M .relations) - 2) / 4)) (M .relations)) 1 0)
-    (es : s ≡ put (cleared 1 (1 + 2 * min 4096 ((length (M .sets) - 1) / 2)) (M .sets)) 0 0) where
-  begins : memories (put r 0 l) s ≡ encode k blank M
-  begins = ap (λ l. memories (put r 0 l) s) (t .0) ∙ begun-both M k r s (t .2) (t .3) er es
+    (er : r ≡ emptied (count-at rel) (head rel) (arity rel) (M .relations)) (es : s ≡ emptied (count-at set) (head set) (arity set) (M .sets)) where
+  begins : memories (put r fields-at l) s ≡ encode k blank M
+  begins = ap (λ l. memories (put r fields-at l) s) (t .0) ∙ begun-both M k r s (t .2) (t .3) er es
 
   same : n ≡ k
   same = en ∙ t .0
 
-  pub begun-here : (w : List ℕ) → w ≡ replicate (length w) 0 → Begun n (memories (put r 0 l) s) w
-  begun-here w z = subst (λ n. Begun n (memories (put r 0 l) s) w) (sym same) (subst (λ X. Begun k X w) (sym begins)
+  pub begun-here : (w : List ℕ) → w ≡ replicate (length w) 0 → Begun n (memories (put r fields-at l) s) w
+  begun-here w z = subst (λ n. Begun n (memories (put r fields-at l) s) w) (sym same) (subst (λ X. Begun k X w) (sym begins)
       (begun M (t .1) (t .2) (t .3) (t .4) (t .5) z))
 
-  pub created-new : (M′ : Memories) (a : Answer) → Created n (memories (put r 0 l) s) M′ a → told a M′ ≡ new-step k M
+  pub created-new : (M′ : Memories) (a : Answer) → Created n (memories (put r fields-at l) s) M′ a → told a M′ ≡ new-step k M
   created-new M′ a C =
       let D = subst (λ n. Created n (encode k blank M) M′ a) same (subst (λ X. Created n X M′ a) begins C) in
       (λ i. told (D .answer i) (D .state i))

@@ -8,7 +8,7 @@ use lib.ListN.{length}
 use lib.Dec.{T}
 use borrow.Author.Tests.{le-leb}
 use borrow.Rule.Slice.PartMut.{putMid}
-use Rattle.nodes.specs.Store.{Kind, set, rel, Store, nodes, pick}
+use Rattle.nodes.specs.Store.{Kind, set, rel, arity, Store, nodes, pick}
 use Rattle.nodes.specs.Programs.{Prog, run}
 use Rattle.nodes.specs.Places.{fits-places}
 use Rattle.nodes.specs.Meaning.{Den, Relates}
@@ -34,7 +34,7 @@ use Rattle.outcomes.specs.OnMemories.{set-places, rel-places, on-store}
 use Rattle.outcomes.specs.Checking.{Accepted}
 use Rattle.new_store.specs.Creating.{set-constants, relation-constants, Begun, Created}
 use Rattle.outcomes.specs.Finishing.{Finished}
-use Rattle.judging.specs.Memory.{Memories, memories, memory, count, fields, body, decode, encode}
+use Rattle.judging.specs.Memory.{Memories, memories, memory, head, count-at, count, fields, body, decode, encode}
 use Rattle.outcomes.specs.Outcome.{runs, handle-of, told, concludes}
 use Rattle.judging.specs.Valid.{IsStore}
 use Rattle.outcomes.specs.declared.Answer.{Answer}
@@ -68,8 +68,8 @@ in-two k = refl
 -- the count of a memory whose store has no node of its kind
 no-count : (K : Kind) (M : Memories) → length (nodes K (decode M)) ≡ 0 → 0 ≡ count K (memory K M)
 unfolding decode
-no-count set M e = sym e ∙ rows-length 2 (count set (M .sets)) (body set (M .sets))
-no-count rel M e = sym e ∙ rows-length 4 (count rel (M .relations)) (body rel (M .relations))
+no-count set M e = sym e ∙ rows-length (arity set) (count set (M .sets)) (body set (M .sets))
+no-count rel M e = sym e ∙ rows-length (arity rel) (count rel (M .relations)) (body rel (M .relations))
 
 module _ (k : ℕ) (M : Memories) (w : List ℕ) (G : Begun k M w) where
   -- the store after the sets' constants
@@ -110,10 +110,12 @@ module _ (k : ℕ) (M : Memories) (w : List ℕ) (G : Begun k M w) where
   sets-safe = subst (Safe (set-constants k)) (sym (G .none)) (sets-do k .safe)
 
   module _ (b w₁ : List ℕ) (s : Arena) (P : Performs set (set-constants k) (arena true 0 0) (part-of set M) b w w₁ s) where
-    pub fill-within-sets : (0 ≤ s .n) × (s .n ≤ 4096) × (1 + 2 * s .n ≤ length (putMid 1 (length (M .sets) - 1) (M .sets) b))
+    pub fill-within-sets : (0 ≤ s .n) × (s .n ≤ 4096)
+        × (head set + arity set * s .n ≤ length (putMid (head set) (length (M .sets) - head set) (M .sets) b))
     fill-within-sets = within-memory set M w ready-sets 0 (none set) tt (set-constants k) (set-constants k) b w₁ s refl sets-safe P
 
-    module _ (s′ : List ℕ) (a : Answer) (F : Finished (putMid 1 (length (M .sets) - 1) (M .sets) b) s′ 1 2 0 s a) where
+    module _ (s′ : List ℕ) (a : Answer) (F : Finished (putMid (head set) (length (M .sets) - head set) (M .sets) b) s′
+        (count-at set) (head set) (arity set) 0 s a) where
       abbrev M₁ : Memories
       M₁ = memories (M .relations) s′
 
@@ -180,11 +182,13 @@ module _ (k : ℕ) (M : Memories) (w : List ℕ) (G : Begun k M w) where
         relations-safe = subst (Safe (relation-constants k)) (sym read-first) (relations-do formed-first .safe)
 
         module _ (d w₃ : List ℕ) (r : Arena) (Q : Performs rel (relation-constants k) (arena true 0 0) (part-of rel M₁) d w₂ w₃ r) where
-          pub fill-within-relations : (0 ≤ r .n) × (r .n ≤ 4096) × (2 + 4 * r .n ≤ length (putMid 2 (length (M .relations) - 2) (M .relations) d))
+          pub fill-within-relations : (0 ≤ r .n) × (r .n ≤ 4096)
+              × (head rel + arity rel * r .n ≤ length (putMid (head rel) (length (M .relations) - head rel) (M .relations) d))
           fill-within-relations =
               within-memory rel M₁ w₂ ready-relations 0 none-first tt (relation-constants k) (relation-constants k) d w₃ r refl relations-safe Q
 
-          pub filled : (r′ : List ℕ) (c : Answer) → Finished (putMid 2 (length (M .relations) - 2) (M .relations) d) r′ 2 4 0 r c
+          pub filled : (r′ : List ℕ) (c : Answer)
+              → Finished (putMid (head rel) (length (M .relations) - head rel) (M .relations) d) r′ (count-at rel) (head rel) (arity rel) 0 r c
               → Created k M (memories r′ s′) c
           filled r′ c H =
               let p = relation-constants k in

@@ -1,13 +1,14 @@
 -- What the functions that make a new store say; a and b are the lengths of the relation memory and the set memory.
 use mathlib.Core.Path.{_≡_}
 use mathlib.Core.List.{List}
-use Prim.Native.Nat.{ℕ, _-_, _*_, _/_, _≤_, min}
-use lib.ListN.{length, replicate}
-use Rattle.nodes.specs.Store.{set, rel}
+use Prim.Native.Nat.{ℕ, _+_, _-_, _*_, _/_, _≤_, min}
+use lib.ListN.{length, replicate, set as put}
+use Rattle.nodes.specs.Store.{Kind, set, rel, arity}
 use Rattle.nodes.specs.Programs.{Prog, bind, _>>=_, run}
 use Rattle.nodes.specs.Operations.{zero-at-depth, one-at-depth, top-at-depth}
 use Rattle.nodes.specs.Images.{blank, new}
-use Rattle.judging.specs.Memory.{Memories, fields, encode, decode}
+use Rattle.judging.specs.Commit.{cleared}
+use Rattle.judging.specs.Memory.{Memories, head, fields, encode, decode}
 use Rattle.judging.specs.Valid.{IsStore}
 use Rattle.outcomes.specs.Outcome.{told}
 use Rattle.outcomes.specs.OnMemories.{set-places, rel-places, new-step}
@@ -23,10 +24,18 @@ set-constants k = zero-at-depth set k >>= λ z. one-at-depth set k
 abbrev pub relation-constants : ℕ → Prog
 relation-constants k = zero-at-depth rel k >>= λ z. one-at-depth rel k >>= λ o. top-at-depth k
 
+-- the places for nodes of kind K in a memory of a numbers
+abbrev pub places-for : Kind → ℕ → ℕ
+places-for K a = min 4096 ((a - head K) / arity K)
+
 -- k fields fit, or why not
 abbrev pub NewChecked : ℕ → ℕ → ℕ → Check → Type 0
 NewChecked a b k (No q) = (M : Memories) → length (M .relations) ≡ a → length (M .sets) ≡ b → told (Declined q) M ≡ new-step k M
-NewChecked a b k (Level l) = (l ≡ k) × (k ≤ 32) × (2 ≤ a) × (1 ≤ b) × (3 * k ≤ min 4096 ((a - 2) / 4)) × (k ≤ min 4096 ((b - 1) / 2))
+NewChecked a b k (Level l) = (l ≡ k) × (k ≤ 32) × (head rel ≤ a) × (head set ≤ b) × (3 * k ≤ places-for rel a) × (k ≤ places-for set b)
+
+-- a memory without nodes: its places are zero, and its count, which stands at `at`; nodes of c numbers begin at `start`
+abbrev pub emptied : ℕ → ℕ → ℕ → List ℕ → List ℕ
+emptied at start c m = put (cleared start (start + c * min 4096 ((length m - start) / c)) m) at 0
 
 -- a store of k fields without nodes, with places for the constants
 pub record Begun (k : ℕ) (M : Memories) (w : List ℕ) : Type 0 where

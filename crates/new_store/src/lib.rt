@@ -1,15 +1,19 @@
 // A new store in two lent memories.
 ghost use mathlib.Core.Path.{_≡_};
 ghost use mathlib.Core.Bool.{true};
-ghost use Prim.Native.Nat.{ℕ, _+_, _-_, _*_, _/_, _<_, _≤_, min};
-ghost use lib.ListN.{length, replicate, set as put};
+ghost use Prim.Native.Nat.{ℕ, _<_, _≤_};
+ghost use lib.ListN.{length, replicate};
 ghost use Rattle.nodes.specs.Store.{set, rel};
 ghost use Rattle.memory.specs.Arena.{arena, Performs};
 ghost use Rattle.judging.specs.Memory.{memories};
 ghost use Rattle.outcomes.specs.Promise.{Meets};
 ghost use Rattle.outcomes.specs.OnMemories.{new-step};
-ghost use Rattle.judging.specs.Commit.{cleared};
-ghost use Rattle.new_store.specs.Creating.{set-constants, relation-constants, NewChecked, Begun, Created};
+ghost use Rattle.new_store.specs.Creating.{set-constants, relation-constants, NewChecked, emptied, Begun, Created};
+use judging::head::FIELDS;
+use judging::head::RELATION_COUNT;
+use judging::head::RELATION_HEAD;
+use judging::head::SET_COUNT;
+use judging::head::SET_HEAD;
 
 // The numbers of a working memory with an index and a small memo.
 const LENT: usize = 12288;
@@ -21,31 +25,30 @@ fn check(relations: usize, sets: usize, k: u32) -> outcomes::Check
     if k > 32 {
         return outcomes::Check::No(outcomes::Refusal::OutOfRange);
     }
-    if relations < 2 {
+    if relations < RELATION_HEAD {
         return outcomes::Check::No(outcomes::Refusal::NotStore);
     }
-    if sets < 1 {
+    if sets < SET_HEAD {
         return outcomes::Check::No(outcomes::Refusal::NotStore);
     }
     let n = memory::wide(k);
-    if 3 * n > memory::places_of(relations - 2, 4) {
+    if 3 * n > memory::places_of(relations - RELATION_HEAD, 4) {
         return outcomes::Check::No(outcomes::Refusal::UsedUp);
     }
-    if n > memory::places_of(sets - 1, 2) {
+    if n > memory::places_of(sets - SET_HEAD, 2) {
         return outcomes::Check::No(outcomes::Refusal::UsedUp);
     }
     outcomes::Check::Level(k)
 }
 
-// No node, and all places free: nodes of c numbers begin at `start`.
-fn begin(memory: &mut [u32], start: usize, c: usize)
-    requires { ⌜ (0 < start) × (0 < c) × (start ≤ length (now memory)) ⌝ }
-    ensures { λ _. ⌜ now (memory .exit)
-        ≡ put (cleared start (start + c * min 4096 ((length (now (memory .entry)) - start) / c)) (now (memory .entry))) (start - 1) 0 ⌝ }
+// No node, and all places free: nodes of c numbers begin at `start`, their count stands at `at`.
+fn begin(memory: &mut [u32], at: usize, start: usize, c: usize)
+    requires { ⌜ (at < start) × (0 < c) × (start ≤ length (now memory)) ⌝ }
+    ensures { λ _. ⌜ now (memory .exit) ≡ emptied at start c (now (memory .entry)) ⌝ }
 {
     let e = start + c * memory::places_of(memory.len() - start, c);
     nodes::clear(&mut memory[start..e]);
-    memory[start - 1] = 0;
+    memory[at] = 0;
 }
 
 // The sets' constants of level k, on no node.
@@ -80,11 +83,11 @@ fn fill(relations: &mut [u32], sets: &mut [u32], work: &mut [u32], k: u8) -> out
     requires { ⌜ Begun k (memories (now relations) (now sets)) (now work) ⌝ }
     ensures { λ r. ⌜ Created k (memories (now (relations .entry)) (now (sets .entry))) (memories (now (relations .exit)) (now (sets .exit))) r ⌝ }
 {
-    let s = set_nodes(&mut sets[1..], work, k);
-    outcomes::finish::finish(sets, 1, 2, 0, s);
+    let s = set_nodes(&mut sets[SET_HEAD..], work, k);
+    outcomes::finish::finish(sets, SET_COUNT, SET_HEAD, 2, 0, s);
     memory::index::empty(work);
-    let r = relation_nodes(&mut relations[2..], work, k);
-    outcomes::finish::finish(relations, 2, 4, 0, r)
+    let r = relation_nodes(&mut relations[RELATION_HEAD..], work, k);
+    outcomes::finish::finish(relations, RELATION_COUNT, RELATION_HEAD, 4, 0, r)
 }
 
 // The same with the part of a clear working memory that serves so few nodes; all of it is zero again.
@@ -109,9 +112,9 @@ pub fn new(relations: &mut [u32], sets: &mut [u32], work: &mut [u32], k: u32) ->
     match check {
         outcomes::Check::No(r) => outcomes::Answer::Declined(r),
         outcomes::Check::Level(l) => {
-            begin(relations, 2, 4);
-            begin(sets, 1, 2);
-            relations[0] = l;
+            begin(relations, RELATION_COUNT, RELATION_HEAD, 4);
+            begin(sets, SET_COUNT, SET_HEAD, 2);
+            relations[FIELDS] = l;
             made(relations, sets, work, memory::narrow(l))
         }
     }

@@ -11,7 +11,7 @@ use Rattle.nodes.specs.WellFormed.{WellFormed}
 use Rattle.nodes.proofs.Canonical.{formed-sized}
 use Rattle.memory.specs.Rows.{row, rows}
 use Rattle.memory.proofs.Rows.{rows-length, rows-at}
-use Rattle.judging.specs.Memory.{Memories, memory, head, count, fields, places-in, nodes-in, decode, flat, write, encode}
+use Rattle.judging.specs.Memory.{Memories, memory, heads, head, count, fields, places-in, nodes-in, decode, flat, write, encode}
 use Rattle.judging.specs.Valid.{Room, IsStore}
 use Rattle.outcomes.proofs.Writing.{spread, places-end}
 
@@ -129,28 +129,32 @@ module _ (K : Kind) (h : List ℕ) (N : Nodes) (m : List ℕ) (lh : length h ≡
 formed-all : {k : ℕ} {S : Store} (K : Kind) → WellFormed k S → AllSized (arity K) (nodes K S)
 formed-all K F = record { each = formed-sized K F .each }
 
--- the head of each kind's memory
-abbrev pub heads : Kind → ℕ → Nodes → List ℕ
-heads set k N = length N ∷ []
-heads rel k N = k ∷ length N ∷ []
+-- S of k fields, written into M
+module _ (k : ℕ) (S : Store) (M : Memories) where
+  -- the head of each kind's memory
+  abbrev pub headed : Kind → List ℕ
+  headed K = heads K k (length (nodes K S))
 
-heads-long : (K : Kind) (k : ℕ) (N : Nodes) → length (heads K k N) ≡ head K
-heads-long set k N = refl
-heads-long rel k N = refl
+  pub headed-long : (K : Kind) → length (headed K) ≡ head K
+  headed-long set = refl
+  headed-long rel = refl
 
-heads-count : (K : Kind) (k : ℕ) (N : Nodes) (m : List ℕ) → count K (write K (heads K k N) N m) ≡ length N
-unfolding write
-heads-count set k N m = refl
-heads-count rel k N m = refl
+  headed-count : (K : Kind) → count K (write K (headed K) (nodes K S) (memory K M)) ≡ length (nodes K S)
+  unfolding write
+  headed-count set = refl
+  headed-count rel = refl
 
-pub encode-memory : (K : Kind) (k : ℕ) (S : Store) (M : Memories) → memory K (encode k S M) ≡ write K (heads K k (nodes K S)) (nodes K S) (memory K M)
-unfolding encode
-encode-memory set k S M = refl
-encode-memory rel k S M = refl
+  pub encode-memory : (K : Kind) → memory K (encode k S M) ≡ write K (headed K) (nodes K S) (memory K M)
+  unfolding encode
+  encode-memory set = refl
+  encode-memory rel = refl
 
-pub encode-fields : (k : ℕ) (S : Store) (M : Memories) → fields (encode k S M) ≡ k
-unfolding encode write
-encode-fields k S M = refl
+  pub encode-count : (K : Kind) → count K (memory K (encode k S M)) ≡ length (nodes K S)
+  encode-count K = ap (count K) (encode-memory K) ∙ headed-count K
+
+  pub encode-fields : fields (encode k S M) ≡ k
+  unfolding encode write
+  encode-fields = refl
 
 -- there is place for S in M
 pub record Space (S : Store) (M : Memories) : Type 0 where
@@ -159,37 +163,40 @@ pub record Space (S : Store) (M : Memories) : Type 0 where
 
 -- what is written is read back
 pub decode-encode : {k : ℕ} {S : Store} (M : Memories) (j : ℕ) → WellFormed k S → decode (encode j S M) ≡ S
-unfolding decode encode
-decode-encode {S = S} M j F i = record {
-  sets = read set (S .sets) (M .sets) (formed-all set F) i;
-  rels = read rel (S .rels) (M .relations) (formed-all rel F) i;
-}
+unfolding decode
+decode-encode {S = S} M j F i = record { sets = read set i; rels = read rel i }
   where
-    read : (K : Kind) (N : Nodes) (m : List ℕ) → AllSized (arity K) N → nodes-in K (write K (heads K j N) N m) ≡ N
-    read K N m s =
-        ap (λ n. rows (arity K) n (drop (head K) (write K (heads K j N) N m))) (heads-count K j N m) ∙ write-nodes K (heads K j N) N m (heads-long K j N) s
+    read : (K : Kind) → nodes-in K (memory K (encode j S M)) ≡ nodes K S
+    read K =
+        let h = headed j S M K in
+        (λ i. rows (arity K) (encode-count j S M K i) (drop (head K) (encode-memory j S M K i)))
+        ∙ write-nodes K h (nodes K S) (memory K M) (headed-long j S M K) (formed-all K F)
 
 module _ {k : ℕ} {S : Store} {M : Memories} (F : WellFormed k S) (p : Space S M) where
+  pub encode-length : (K : Kind) (j : ℕ) → length (memory K (encode j S M)) ≡ length (memory K M)
+  encode-length K j = ap length (encode-memory j S M K)
+      ∙ write-length K (headed j S M K) (nodes K S) (memory K M) (headed-long j S M K) (formed-all K F) (p .within K) (p .headed K)
+
   pub encode-places : (K : Kind) (j : ℕ) → places-in K (memory K (encode j S M)) ≡ places-in K (memory K M)
-  encode-places K j = ap (places-in K) (encode-memory K j S M)
-      ∙ write-places K (heads K j (nodes K S)) (nodes K S) (memory K M) (heads-long K j (nodes K S)) (formed-all K F) (p .within K) (p .headed K)
+  encode-places K j = ap (places-in K) (encode-memory j S M K)
+      ∙ write-places K (headed j S M K) (nodes K S) (memory K M) (headed-long j S M K) (formed-all K F) (p .within K) (p .headed K)
 
   pub encode-store : k ≤ 32 → IsStore (encode k S M)
   encode-store b = record {
     few = subst (λ j. j ≤ 32) (sym (encode-fields k S M)) b;
-    room = λ K. subst (Room K) (sym (encode-memory K k S M)) (write-room K (heads K k (nodes K S)) (nodes K S) (memory K M) (heads-long K k (nodes K S))
-        (formed-all K F) (p .within K) (p .headed K) (heads-count K k (nodes K S) (memory K M)));
+    room = λ K. subst (Room K) (sym (encode-memory k S M K)) (write-room K (headed k S M K) (nodes K S) (memory K M) (headed-long k S M K)
+        (formed-all K F) (p .within K) (p .headed K) (headed-count k S M K));
     formed = subst (λ j. WellFormed j (decode (encode k S M))) (sym (encode-fields k S M)) (subst (WellFormed k) (sym (decode-encode M k F)) F);
   }
 
-  over-one : (K : Kind) (j : ℕ) (h : List ℕ) (N : Nodes) → write K h N (write K (heads K j (nodes K S)) (nodes K S) (memory K M)) ≡ write K h N (memory K M)
-  over-one K j h N = write-write K (heads K j (nodes K S)) (nodes K S) (memory K M) (heads-long K j (nodes K S)) (formed-all K F)
+  over-one : (K : Kind) (j : ℕ) (h : List ℕ) (N : Nodes) → write K h N (write K (headed j S M K) (nodes K S) (memory K M)) ≡ write K h N (memory K M)
+  over-one K j h N = write-write K (headed j S M K) (nodes K S) (memory K M) (headed-long j S M K) (formed-all K F)
       (p .within K) (p .headed K) h N
 
   -- the next store written over it
   pub encode-encode : (j i : ℕ) (T : Store) → encode i T (encode j S M) ≡ encode i T M
   unfolding encode
   encode-encode j i T d = record {
-    relations = over-one rel j (heads rel i (T .rels)) (T .rels) d;
-    sets = over-one set j (heads set i (T .sets)) (T .sets) d;
+    relations = over-one rel j (headed i T M rel) (T .rels) d;
+    sets = over-one set j (headed i T M set) (T .sets) d;
   }

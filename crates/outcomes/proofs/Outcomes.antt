@@ -3,11 +3,11 @@
 use mathlib.Core.Path.{_≡_, refl, sym, ap, _∙_, subst}
 use mathlib.Core.List.{List, [], _∷_, _++_}
 use mathlib.Core.Bool.{Bool, true, false, _&&_}
-use Prim.Native.Nat.{ℕ, _+_, _-_, _*_, _≤_}
+use Prim.Native.Nat.{ℕ, _+_, _*_, _<_, _≤_}
 use native.Mathlib.Omega.{arith}
 use native.Mathlib.Nat.{mul-le-mul-left}
 use lib.ListN.{length, getD, set as put, take, drop, length-drop}
-use lib.Seq.{take-add, drop-drop, length-take-le, take-append-add, drop-append-add}
+use lib.Seq.{take-add, drop-drop, length-take-le, take-append-add, drop-append-add, getD-take, set-append-left, set-getD}
 use lib.Dec.{leb}
 use borrow.Author.Tests.{le-leb}
 use Rattle.nodes.specs.Store.{Kind, set, rel, arity, Nodes, Store, nodes, with-nodes, pick}
@@ -21,7 +21,23 @@ use Rattle.memory.proofs.Rows.{rows-length, places-fit, plain-nodes}
 use Rattle.outcomes.specs.OnMemories.{set-places, rel-places, on-store}
 use Rattle.outcomes.specs.Finishing.{Finished, Fitted, Ends}
 use Rattle.judging.specs.Commit.{Committed}
-use Rattle.judging.specs.Memory.{Memories, memories, memory, head, count, fields, body, places-in, nodes-in, decode, write, encode}
+use Rattle.judging.specs.Memory.{
+  Memories,
+  memories,
+  memory,
+  heads,
+  head,
+  count-at,
+  fields-at,
+  count,
+  fields,
+  body,
+  places-in,
+  nodes-in,
+  decode,
+  write,
+  encode,
+}
 use Rattle.outcomes.specs.Outcome.{Verdict, gives, runs, provided, going, handle-of, Told, told, concludes}
 use Rattle.judging.specs.Valid.{Room, IsStore, store?}
 use Rattle.outcomes.specs.declared.Answer.{Answer}
@@ -35,29 +51,34 @@ use Rattle.judging.proofs.Deciding.{decided-true}
 use Rattle.outcomes.proofs.Handles.{provided-yes, provided-no}
 use Rattle.outcomes.proofs.Writing.{spread, room-free, write-body, write-back, cleared-back}
 
--- HEADS. A memory's head numbers with another count
+-- HEADS. A memory's head with another count
 abbrev pub recount : Kind → List ℕ → ℕ → List ℕ
-recount set m n = n ∷ []
-recount rel m n = getD m 0 0 ∷ n ∷ []
+recount K m n = heads K (getD m fields-at 0) n
 
-pub put-count : (K : Kind) (m b : List ℕ) (n : ℕ) → head K ≤ length m → put (take (head K) m ++ b) (head K - 1) n ≡ recount K m n ++ b
-put-count set [] b n h = absurd (omega arith)
-put-count set (x ∷ m) b n h = refl
-put-count rel [] b n h = absurd (omega arith)
-put-count rel (x ∷ []) b n h = absurd (omega arith)
-put-count rel (x ∷ y ∷ m) b n h = refl
+put-head : (K : Kind) (m : List ℕ) (n : ℕ) → head K ≤ length m → put (take (head K) m) (count-at K) n ≡ recount K m n
+put-head set [] n h = absurd (omega arith)
+put-head set (x ∷ m) n h = refl
+put-head rel [] n h = absurd (omega arith)
+put-head rel (x ∷ []) n h = absurd (omega arith)
+put-head rel (x ∷ y ∷ m) n h = refl
+
+-- the count stands in the head
+counted : (K : Kind) → count-at K < head K
+counted set = omega arith
+counted rel = omega arith
+
+pub put-count : (K : Kind) (m b : List ℕ) (n : ℕ) → head K ≤ length m → put (take (head K) m ++ b) (count-at K) n ≡ recount K m n ++ b
+put-count K m b n h = set-append-left (take (head K) m) b (count-at K) n (omega (arith, counted K, length-take-le (head K) m h))
+    ∙ ap (λ a. a ++ b) (put-head K m n h)
 
 same-count : (K : Kind) (m : List ℕ) → head K ≤ length m → recount K m (count K m) ≡ take (head K) m
-same-count set [] h = absurd (omega arith)
-same-count set (x ∷ m) h = refl
-same-count rel [] h = absurd (omega arith)
-same-count rel (x ∷ []) h = absurd (omega arith)
-same-count rel (x ∷ y ∷ m) h = refl
+same-count K m h = sym (put-head K m (count K m) h)
+    ∙ ap (put (take (head K) m) (count-at K)) (sym (getD-take (head K) m (count-at K) 0 (counted K))) ∙ set-getD (take (head K) m) (count-at K) 0
 
 -- ONE MEMORY: m before the call, m₁ with the nodes b that a program left, m′ after `commit`
 module _ (K : Kind) (p : Prog) (B : Store) (m m₁ m′ b w w′ : List ℕ) (r : Arena) (R : Room K m)
     (P : Runs K p B (arena true (count K m) 0) (body K m) b w w′ r) (put-back : m₁ ≡ take (head K) m ++ b)
-    (C : Committed m₁ m′ (head K) (arity K) (count K m) r) where
+    (C : Committed m₁ m′ (count-at K) (head K) (arity K) (count K m) r) where
   abbrev S : Store
   S = plain K B (body K m) (count K m)
 
@@ -74,7 +95,7 @@ module _ (K : Kind) (p : Prog) (B : Store) (m m₁ m′ b w w′ : List ℕ) (r 
       let l = fitted-count t in
       let q : write K (recount K m (r .n)) (rows (arity K) (r .n) b) m ≡ recount K m (r .n) ++ b
       = write-body K _ m b (r .n) (room-free K m (r .n) R (W .grows) (W .most)) (record { long = W .long; rest = W .rest }) in
-      C .fitted t ∙ ap (λ x. put x (head K - 1) (r .n)) put-back ∙ put-count K m b (r .n) (R .headed) ∙ sym q
+      C .fitted t ∙ ap (λ x. put x (count-at K) (r .n)) put-back ∙ put-count K m b (r .n) (R .headed) ∙ sym q
       ∙ sym (λ i. write K (recount K m (l i)) (left t i) m)
 
   pub full-memory : r .ok ≡ false → m′ ≡ m
@@ -112,8 +133,8 @@ same-memory K m R = ap (λ h. write K h (nodes-in K m) m) (ap (recount K m) (nod
 pub encode-one : (K : Kind) (M : Memories) (N : Nodes) → IsStore M
     → encode (fields M) (with-nodes K N (decode M)) M ≡ with-memory K (write K (recount K (memory K M) (length N)) N (memory K M)) M
 unfolding encode decode
-encode-one set M N s = ap (λ r. memories r (write set (length N ∷ []) N (M .sets))) (same-memory rel (M .relations) (s .room rel))
-encode-one rel M N s = ap (λ t. memories (write rel (fields M ∷ length N ∷ []) N (M .relations)) t) (same-memory set (M .sets) (s .room set))
+encode-one set M N s = ap (λ r. memories r (write set (heads set (fields M) (length N)) N (M .sets))) (same-memory rel (M .relations) (s .room rel))
+encode-one rel M N s = ap (λ t. memories (write rel (heads rel (fields M) (length N)) N (M .relations)) t) (same-memory set (M .sets) (s .room set))
 
 -- what a verdict comes to on the memories M, `refuse` making answers of refusals
 abbrev pub ended : {A : Type 0} → (Refusal → A) → Memories → Verdict A → Told A Memories
@@ -178,7 +199,7 @@ with-others rel N S = refl
 module _ {A : Type 0} (refuse : Refusal → A) (v : ℕ → Store → Verdict A) (M : Memories) (s : IsStore M) (K : Kind) (p : Prog) (g : Ran → A)
     (m₁ m′ b w w′ : List ℕ) (r : Arena) (a : A) (e : v (fields M) (decode M) ≡ runs p g)
     (P : Runs K p (decode M) (arena true (count K (memory K M)) 0) (body K (memory K M)) b w w′ r) (put-back : m₁ ≡ take (head K) (memory K M) ++ b)
-    (C : Committed m₁ m′ (head K) (arity K) (count K (memory K M)) r) (E : Ends K (decode M) r (run p (decode M)) g (refuse UsedUp) a) where
+    (C : Committed m₁ m′ (count-at K) (head K) (arity K) (count K (memory K M)) r) (E : Ends K (decode M) r (run p (decode M)) g (refuse UsedUp) a) where
   abbrev S₀ : Store
   S₀ = plain K (decode M) (body K (memory K M)) (count K (memory K M))
 
@@ -234,9 +255,9 @@ module _ {A : Type 0} (refuse : Refusal → A) (v : ℕ → Store → Verdict A)
   ran-on = by-test (λ b. r .ok ≡ b → told a (with-memory K m′ M) ≡ on-store refuse v M) (r .ok) (λ t u. ran-fits u) (λ t u. ran-full u) refl
 
 -- how `finish` ends a run that gives a handle
-pub finished-commits : {m m′ : List ℕ} {start c n : ℕ} {r : Arena} {a : Answer} → Finished m m′ start c n r a → Committed m m′ start c n r
+pub finished-commits : {m m′ : List ℕ} {at start c n : ℕ} {r : Arena} {a : Answer} → Finished m m′ at start c n r a → Committed m m′ at start c n r
 finished-commits F = record { fitted = λ t. F .fitted t .1; full = λ f. F .full f .1 }
 
-pub finished-ends : {m m′ : List ℕ} {start c n : ℕ} {r : Arena} {a : Answer} (K : Kind) (S : Store) (R : Ran) → Finished m m′ start c n r a
+pub finished-ends : {m m′ : List ℕ} {at start c n : ℕ} {r : Arena} {a : Answer} (K : Kind) (S : Store) (R : Ran) → Finished m m′ at start c n r a
     → Ends K S r R handle-of (Declined UsedUp) a
 finished-ends K S R F = record { fitted = λ t D. F .fitted t .0 ∙ ap Handle (D .value); full = λ f. F .full f .0 }

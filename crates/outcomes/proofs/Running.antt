@@ -23,7 +23,7 @@ use Rattle.outcomes.specs.Finishing.{Ends}
 use Rattle.judging.specs.Commit.{Committed}
 use Rattle.judging.specs.Judging.{kind-last, both, StoreJudged}
 use Rattle.judging.specs.Reindexing.{Reindexed}
-use Rattle.judging.specs.Memory.{Memories, memory, head, count, fields, body, decode}
+use Rattle.judging.specs.Memory.{Memories, memory, head, count-at, count, fields, body, decode}
 use Rattle.outcomes.specs.Outcome.{Verdict, runs, going, told}
 use Rattle.judging.specs.Valid.{IsStore}
 use Rattle.outcomes.specs.declared.Check.{Check}
@@ -154,8 +154,8 @@ module _ (K : Kind) (M : Memories) (w : List ℕ) (Y : Accepted K M w) (n : ℕ)
         )
 
     pub ran-here : {A : Type 0} (refuse : Refusal → A) (v : ℕ → Store → Verdict A) (f : Ran → A) (m′ : List ℕ) (a : A) → v (fields M) (decode M) ≡ runs p f
-        → Committed (putMid (head K) (length m - head K) m b) m′ (head K) (arity K) n r → Ends K (decode M) r (run p (decode M)) f (refuse UsedUp) a
+        → Committed (putMid (head K) (length m - head K) m b) m′ (count-at K) (head K) (arity K) n r → Ends K (decode M) r (run p (decode M)) f (refuse UsedUp) a
         → told a (with-memory K m′ M) ≡ on-store refuse v M
     ran-here refuse v f m′ a e C E =
         ran-on refuse v M (Y .store) K p f (putMid (head K) (length m - head K) m b) m′ b w w′ r a e runs-here (tail-put (head K) m b)
-        (subst (λ n. Committed (putMid (head K) (length m - head K) m b) m′ (head K) (arity K) n r) en C) E
+        (subst (λ n. Committed (putMid (head K) (length m - head K) m b) m′ (count-at K) (head K) (arity K) n r) en C) E

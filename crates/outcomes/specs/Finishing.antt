@@ -2,7 +2,7 @@
 use mathlib.Core.Path.{_≡_}
 use mathlib.Core.Bool.{true, false}
 use mathlib.Core.List.{List}
-use Prim.Native.Nat.{ℕ, _+_, _-_, _*_}
+use Prim.Native.Nat.{ℕ, _+_, _*_}
 use lib.ListN.{length, set as put}
 use Rattle.nodes.specs.Programs.{Ran}
 use Rattle.nodes.specs.Store.{Kind, Store, nodes}
@@ -13,9 +13,10 @@ use Rattle.outcomes.specs.declared.Refusal.the-variants.{UsedUp}
 use Rattle.outcomes.specs.declared.Answer.{Answer}
 use Rattle.outcomes.specs.declared.Answer.the-variants.{Handle, Declined}
 
--- the count is written where all fitted, else the places from n on that were written are zero again; nodes of c numbers begin at `start`
-pub record Finished (m m′ : List ℕ) (start c n : ℕ) (r : Arena) (a : Answer) : Type 0 where
-  pub fitted : r .ok ≡ true → (a ≡ Handle (r .h)) × (m′ ≡ put m (start - 1) (r .n))
+-- the count, which stands at `at`, is written where all fitted, else the places from n on that were written are zero again;
+-- nodes of c numbers begin at `start`
+pub record Finished (m m′ : List ℕ) (at start c n : ℕ) (r : Arena) (a : Answer) : Type 0 where
+  pub fitted : r .ok ≡ true → (a ≡ Handle (r .h)) × (m′ ≡ put m at (r .n))
   pub full : r .ok ≡ false → (a ≡ Declined UsedUp) × (m′ ≡ cleared (start + c * n) (start + c * r .n) m)
 
 -- the run R of a program on S added nodes of kind K alone, and all fitted, as the arena r says

@@ -27,7 +27,7 @@ on-store refuse v M =
     concludes (refuse UsedUp) (set-places M) (rel-places M) (going refuse (provided NotStore (store? M) (Level (fields M))) (λ k. v k (decode M))) (decode M) M
     (λ S. encode (fields M) S M)
 
--- 01, `new`: "1 if relation memory has fewer than 2 numbers or set memory none"
+-- 01, `new`: "1 if relation memory has fewer than 2 numbers or set memory none": a head is not there
 abbrev pub heads? : Memories → Bool
 heads? M = leb (head rel) (length (M .relations)) && leb (head set) (length (M .sets))
 

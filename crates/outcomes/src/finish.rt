@@ -4,18 +4,19 @@ ghost use Prim.Native.Nat.{ℕ, _+_, _*_, _<_, _≤_};
 ghost use lib.ListN.{length};
 ghost use Rattle.outcomes.specs.Finishing.{Finished};
 
-// The handle, or 6 and the nodes are again as they were: n nodes of c numbers, which begin at `start`.
+// The handle, or 6 and the nodes are again as they were: n nodes of c numbers, which begin at `start`; their count stands at `at`.
 pub fn finish(
     memory: &mut [u32],
+    at: usize,
     start: usize,
     c: usize,
     n: usize,
     r: memory::Arena,
 ) -> crate::Answer
-    requires { ⌜ (0 < start) × (n ≤ r .n) × (r .n ≤ 4096) × (start + c * r .n ≤ length (now memory)) ⌝ }
-    ensures { λ a. ⌜ Finished (now (memory .entry)) (now (memory .exit)) start c n r a ⌝ }
+    requires { ⌜ (at < start) × (n ≤ r .n) × (r .n ≤ 4096) × (start + c * r .n ≤ length (now memory)) ⌝ }
+    ensures { λ a. ⌜ Finished (now (memory .entry)) (now (memory .exit)) at start c n r a ⌝ }
 {
-    judging::commit::commit(memory, start, c, n, r);
+    judging::commit::commit(memory, at, start, c, n, r);
     if r.ok {
         return crate::Answer::Handle(r.h);
     }

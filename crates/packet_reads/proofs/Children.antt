@@ -2,9 +2,9 @@
 use mathlib.Core.Path.{_≡_, ap, _∙_}
 use mathlib.Core.List.{List}
 use Prim.Native.Nat.{ℕ}
-use lib.ListN.{length, replicate}
 use Rattle.judging.specs.Memory.{Memories}
-use Rattle.outcomes.specs.Outcome.{Told, told}
+use Rattle.outcomes.specs.Outcome.{Told}
+use Rattle.outcomes.specs.Promise.{Meets}
 use Rattle.outcomes.specs.declared.Answer.{Answer}
 use Rattle.packing.specs.Packed.{packed}
 use Rattle.packing.proofs.Answering.{answers}
@@ -12,8 +12,7 @@ use Rattle.store.specs.Calls.{Call, step}
 use Rattle.packet_reads.specs.Children.{AnswersChildren}
 
 module _ (filled : Answer → List ℕ → List ℕ) (C : Call) (M : Memories) (w w′ c c′ : List ℕ) (a : Answer) (r : ℕ) where
-  pub answers-children : (told a M ≡ step C M) × (w′ ≡ replicate (length w) 0) → c′ ≡ filled a c → r ≡ packed a
-      → AnswersChildren filled C M w w′ c c′ r
+  pub answers-children : Meets (step C M) M w w′ a → c′ ≡ filled a c → r ≡ packed a → AnswersChildren filled C M w w′ c c′ r
   answers-children says fill is = record {
     call = answers packed (step C M) M w w′ a r says is;
     children = fill ∙ ap (λ (t : Told Answer Memories). filled (t .answer) c) (says .0);

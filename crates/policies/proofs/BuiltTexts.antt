@@ -8,13 +8,13 @@ use borrow.Rule.Slice.PartMut.{putMid}
 use Rattle.nodes.specs.Policies.{policy-program}
 use Rattle.nodes.specs.Programs.{Prog, Ran, run}
 use Rattle.nodes.specs.Safety.{Safe}
-use Rattle.nodes.specs.Store.{rel, Store as Nodes, pick}
+use Rattle.nodes.specs.Store.{rel, arity, Store as Nodes, pick}
 use Rattle.nodes.proofs.Policies.{policy-does}
 use Rattle.memory.specs.Arena.{arena, Performs}
 use Rattle.memory.specs.declared.Arena.{Arena}
 use Rattle.memory.proofs.Steps.{false≢true}
 use Rattle.judging.specs.Commit.{Committed}
-use Rattle.judging.specs.Memory.{Memories, count, fields, decode}
+use Rattle.judging.specs.Memory.{Memories, head, count-at, count, fields, decode}
 use Rattle.judging.specs.Valid.{IsStore, store?}
 use Rattle.outcomes.specs.Checking.{Accepted}
 use Rattle.outcomes.specs.Finishing.{Ends}
@@ -77,10 +77,12 @@ module _ (t : List ℕ) (M : Memories) (w : List ℕ) (Y : Accepted rel M w) (n 
   safe : Safe p (decode M)
   safe = policy-does (tree x-forms t) (tree-keeps x-lawful (fields M) (x-bounds (fields M)) t e .1) (Y .store .formed) .safe
 
-  pub built-within : (n ≤ r .n) × (r .n ≤ 4096) × (2 + 4 * r .n ≤ length (putMid 2 (length (M .relations) - 2) (M .relations) b))
+  pub built-within : (n ≤ r .n) × (r .n ≤ 4096)
+      × (head rel + arity rel * r .n ≤ length (putMid (head rel) (length (M .relations) - head rel) (M .relations) b))
   built-within = within-memory rel M w Y n en tt p _ b w′ r (ap (λ k. policy-program k (tree x-forms t)) ek) safe performs
 
-  pub built-ran : (m′ : List ℕ) (a : PolicyAnswer) → Committed (putMid 2 (length (M .relations) - 2) (M .relations) b) m′ 2 4 n r
+  pub built-ran : (m′ : List ℕ) (a : PolicyAnswer)
+      → Committed (putMid (head rel) (length (M .relations) - head rel) (M .relations) b) m′ (count-at rel) (head rel) (arity rel) n r
       → Ends rel (decode M) r (run p (decode M)) built-handle (refused UsedUp) a → told a (with-memory rel m′ M) ≡ policy-step t M
   unfolding policy-step of-reading
   built-ran m′ a C E = ran-here rel M w Y n en tt p _ b w′ r (ap (λ k. policy-program k (tree x-forms t)) ek) safe performs refused

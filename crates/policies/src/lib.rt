@@ -11,6 +11,9 @@ ghost use Rattle.texts.specs.Reading.{reading};
 ghost use Rattle.texts.specs.declared.Reading.the-variants.{Policy};
 ghost use Rattle.policies.specs.Answers.{fault-number};
 ghost use Rattle.policies.specs.Outcome.{policy-step, short?};
+use judging::head::FIELDS;
+use judging::head::RELATION_COUNT;
+use judging::head::RELATION_HEAD;
 
 // What is wrong at a place in a text.
 pub enum Fault {
@@ -51,15 +54,21 @@ fn built(relations: &mut [u32], sets: &[u32], work: &mut [u32], text: &[u8]) -> 
     ensures { λ r. ⌜ told r (memories (now (relations .exit)) (now (sets .entry)))
         ≡ policy-step (now (text .entry)) (memories (now (relations .entry)) (now (sets .entry))) ⌝ }
 {
-    let k = relations[0];
-    let n = memory::wide(relations[1]);
+    let k = relations[FIELDS];
+    let n = memory::wide(relations[RELATION_COUNT]);
     let s = memory::Arena {
         ok: true,
         n: n,
         h: 0,
     };
-    let r = building::build(text, &mut relations[2..], work, s, memory::narrow(k));
-    judging::commit::commit(relations, 2, 4, n, r);
+    let r = building::build(
+        text,
+        &mut relations[RELATION_HEAD..],
+        work,
+        s,
+        memory::narrow(k),
+    );
+    judging::commit::commit(relations, RELATION_COUNT, RELATION_HEAD, 4, n, r);
     if r.ok {
         return PolicyAnswer::Handle(r.h);
     }
@@ -75,7 +84,7 @@ fn judged(relations: &mut [u32], sets: &[u32], work: &mut [u32], text: &[u8]) ->
     if text.len() > 4096 {
         return PolicyAnswer::Declined(PolicyRefusal::Store(outcomes::Refusal::TooLong));
     }
-    let read = texts::read(text, relations[0]);
+    let read = texts::read(text, relations[FIELDS]);
     match read {
         texts::Reading::Policy => built(relations, sets, work, text),
         texts::Reading::NotPolicy(i) => PolicyAnswer::Declined(PolicyRefusal::At(

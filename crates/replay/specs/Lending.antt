@@ -2,15 +2,17 @@
 use mathlib.Core.List.{List}
 use Prim.Native.Nat.{ℕ, _≤_}
 use lib.ListN.{length}
+use Rattle.nodes.specs.Store.{set, rel}
+use Rattle.judging.specs.Memory.{head}
 use Rattle.replay.specs.declared.runs.Lent.{Lent}
 use Rattle.replay.specs.declared.runs.Step.{Step}
 use Rattle.replay.specs.declared.runs.Step.the-variants.{On, End}
 
 -- the heads are lent, and no more than there is
 pub record Lends (l : Lent) (r s : List ℕ) : Type 0 where
-  pub head : 2 ≤ l .relations
+  pub relation-head : head rel ≤ l .relations
   pub relations : l .relations ≤ length r
-  pub first : 1 ≤ l .sets
+  pub set-head : head set ≤ l .sets
   pub sets : l .sets ≤ length s
 
 abbrev pub Goes : Step → List ℕ → List ℕ → Type 0

@@ -1,8 +1,14 @@
 // Runs the calls of a list on a store in two memories, of which as much is lent as `new` asked for.
 ghost use Prim.Native.Nat.{_≤_};
 ghost use lib.ListN.{length};
+ghost use Rattle.nodes.specs.Store.{set, rel};
+ghost use Rattle.judging.specs.Memory.{head};
 ghost use Rattle.replay.specs.Lending.{Lends, Goes};
 use crate::calls::Call;
+use judging::head::RELATION_COUNT;
+use judging::head::RELATION_HEAD;
+use judging::head::SET_COUNT;
+use judging::head::SET_HEAD;
 
 // How many numbers of each memory are lent.
 pub struct Lent {
@@ -38,10 +44,10 @@ fn answer(
 
 // Makes a call and writes its answer.
 fn operation(relations: &mut [u32], sets: &mut [u32], work: &mut [u32], call: Call)
-    requires { ⌜ (2 ≤ length (now relations)) × (1 ≤ length (now sets)) ⌝ }
+    requires { ⌜ (head rel ≤ length (now relations)) × (head set ≤ length (now sets)) ⌝ }
 {
     let a = answer(relations, sets, work, call);
-    crate::answers::write(a, relations[1], sets[0]);
+    crate::answers::write(a, relations[RELATION_COUNT], sets[SET_COUNT]);
 }
 
 // Begins a store of k fields with r and s places, where there are as many; a refusal keeps the store before.
@@ -57,8 +63,8 @@ fn begin(
     requires { ⌜ Lends lent (now relations) (now sets) ⌝ }
     ensures { λ t. ⌜ Goes t (now (relations .entry)) (now (sets .entry)) ⌝ }
 {
-    let rl = 2 + 4 * (r as usize);
-    let sl = 1 + 2 * (s as usize);
+    let rl = RELATION_HEAD + 4 * (r as usize);
+    let sl = SET_HEAD + 2 * (s as usize);
     if rl > relations.len() {
         return Step::End;
     }
@@ -67,10 +73,10 @@ fn begin(
     }
     let a = new_store::new(&mut relations[..rl], &mut sets[..sl], work, k);
     if let outcomes::Answer::Declined(_) = a {
-        crate::answers::write(a, relations[1], sets[0]);
+        crate::answers::write(a, relations[RELATION_COUNT], sets[SET_COUNT]);
         return Step::On(lent);
     }
-    crate::answers::opened(relations[1], sets[0]);
+    crate::answers::opened(relations[RELATION_COUNT], sets[SET_COUNT]);
     Step::On(Lent {
         relations: rl,
         sets: sl,
@@ -103,11 +109,11 @@ fn run_line(
 
 // All lines of the list, on memories that hold the store of no fields and no places.
 pub fn replay(text: &[u8], relations: &mut [u32], sets: &mut [u32], work: &mut [u32])
-    requires { ⌜ (2 ≤ length (now relations)) × (1 ≤ length (now sets)) ⌝ }
+    requires { ⌜ (head rel ≤ length (now relations)) × (head set ≤ length (now sets)) ⌝ }
 {
     let mut lent = Lent {
-        relations: 2,
-        sets: 1,
+        relations: RELATION_HEAD,
+        sets: SET_HEAD,
     };
     let mut from = 0;
     let mut line = 0;

@@ -9,6 +9,11 @@ ghost use Rattle.outcomes.specs.Promise.{Meets};
 ghost use Rattle.store.specs.Calls.{filter-call, step};
 ghost use Rattle.store.specs.ImageCalls.{filter-declines, filter-program};
 ghost use Rattle.outcomes.specs.Checking.{Checks, Accepted};
+use judging::head::FIELDS;
+use judging::head::RELATION_COUNT;
+use judging::head::RELATION_HEAD;
+use judging::head::SET_COUNT;
+use judging::head::SET_HEAD;
 
 // A call with its argument, a set, after spp.rs.
 pub enum FilterCall {
@@ -58,10 +63,10 @@ fn judged(
     ensures { λ r. ⌜ told r (memories (now (relations .exit)) (now (sets .entry)))
         ≡ step (filter-call call) (memories (now (relations .entry)) (now (sets .entry))) ⌝ }
 {
-    let k = relations[0];
-    let n = memory::wide(relations[1]);
-    let m = memory::wide(sets[0]);
-    let check = check(&sets[1..], m, k, call);
+    let k = relations[FIELDS];
+    let n = memory::wide(relations[RELATION_COUNT]);
+    let m = memory::wide(sets[SET_COUNT]);
+    let check = check(&sets[SET_HEAD..], m, k, call);
     match check {
         outcomes::Check::No(r) => outcomes::Answer::Declined(r),
         outcomes::Check::Level(l) => {
@@ -71,14 +76,14 @@ fn judged(
                 h: 0,
             };
             let r = perform(
-                &sets[1..],
-                &mut relations[2..],
+                &sets[SET_HEAD..],
+                &mut relations[RELATION_HEAD..],
                 work,
                 s,
                 memory::narrow(l),
                 call,
             );
-            outcomes::finish::finish(relations, 2, 4, n, r)
+            outcomes::finish::finish(relations, RELATION_COUNT, RELATION_HEAD, 4, n, r)
         }
     }
 }

@@ -9,6 +9,11 @@ ghost use Rattle.outcomes.specs.Promise.{Meets};
 ghost use Rattle.store.specs.Calls.{image-call, step};
 ghost use Rattle.store.specs.ImageCalls.{image-declines, image-program};
 ghost use Rattle.outcomes.specs.Checking.{ChecksBoth, Accepted};
+use judging::head::FIELDS;
+use judging::head::RELATION_COUNT;
+use judging::head::RELATION_HEAD;
+use judging::head::SET_COUNT;
+use judging::head::SET_HEAD;
 
 // A call with its arguments, after spp.rs: `fwd` and `bwd` of a relation, `push` of a set through a relation, `pull` of a relation and a set.
 pub enum ImageCall {
@@ -68,10 +73,17 @@ fn judged(
     ensures { λ r. ⌜ told r (memories (now (relations .entry)) (now (sets .exit)))
         ≡ step (image-call call) (memories (now (relations .entry)) (now (sets .entry))) ⌝ }
 {
-    let k = relations[0];
-    let n = memory::wide(relations[1]);
-    let m = memory::wide(sets[0]);
-    let check = check(&relations[2..], n, &sets[1..], m, k, call);
+    let k = relations[FIELDS];
+    let n = memory::wide(relations[RELATION_COUNT]);
+    let m = memory::wide(sets[SET_COUNT]);
+    let check = check(
+        &relations[RELATION_HEAD..],
+        n,
+        &sets[SET_HEAD..],
+        m,
+        k,
+        call,
+    );
     match check {
         outcomes::Check::No(r) => outcomes::Answer::Declined(r),
         outcomes::Check::Level(l) => {
@@ -81,14 +93,14 @@ fn judged(
                 h: 0,
             };
             let r = perform(
-                &relations[2..],
-                &mut sets[1..],
+                &relations[RELATION_HEAD..],
+                &mut sets[SET_HEAD..],
                 work,
                 s,
                 memory::narrow(l),
                 call,
             );
-            outcomes::finish::finish(sets, 1, 2, m, r)
+            outcomes::finish::finish(sets, SET_COUNT, SET_HEAD, 2, m, r)
         }
     }
 }

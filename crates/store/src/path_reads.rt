@@ -10,6 +10,11 @@ ghost use Rattle.store.specs.Calls.{path-read, step};
 ghost use Rattle.store.specs.ImageCalls.{path-declines, path-answer};
 ghost use Rattle.store.specs.ImageChecking.{PathSafe};
 ghost use Rattle.outcomes.specs.Checking.{ChecksBoth, AnsweredOn, Accepted};
+use judging::head::FIELDS;
+use judging::head::RELATION_COUNT;
+use judging::head::RELATION_HEAD;
+use judging::head::SET_COUNT;
+use judging::head::SET_HEAD;
 
 // A call with its arguments, after spp.rs: an input set and a relation, and for `has_path` an output set.
 pub enum PathRead {
@@ -69,15 +74,22 @@ fn judged(relations: &[u32], sets: &[u32], work: &mut [u32], call: PathRead) -> 
     ensures { λ r. ⌜ told r (memories (now (relations .entry)) (now (sets .entry)))
         ≡ step (path-read call) (memories (now (relations .entry)) (now (sets .entry))) ⌝ }
 {
-    let k = relations[0];
-    let n = memory::wide(relations[1]);
-    let m = memory::wide(sets[0]);
-    let check = check(&relations[2..], n, &sets[1..], m, k, call);
+    let k = relations[FIELDS];
+    let n = memory::wide(relations[RELATION_COUNT]);
+    let m = memory::wide(sets[SET_COUNT]);
+    let check = check(
+        &relations[RELATION_HEAD..],
+        n,
+        &sets[SET_HEAD..],
+        m,
+        k,
+        call,
+    );
     match check {
         outcomes::Check::No(r) => outcomes::Answer::Declined(r),
         outcomes::Check::Level(l) => answer(
-            &relations[2..],
-            &sets[1..],
+            &relations[RELATION_HEAD..],
+            &sets[SET_HEAD..],
             work,
             m,
             memory::narrow(l),

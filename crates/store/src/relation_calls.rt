@@ -9,6 +9,9 @@ ghost use Rattle.store.specs.Calls.{relation-call, step};
 ghost use Rattle.store.specs.RelationCalls.{relation-declines, relation-program};
 ghost use Rattle.outcomes.specs.Checking.{Checks, Accepted};
 ghost use Rattle.store.specs.RelationChecking.{RelationFieldFits};
+use judging::head::FIELDS;
+use judging::head::RELATION_COUNT;
+use judging::head::RELATION_HEAD;
 
 // A call with its arguments, after spp.rs: handles, and for `test` and `assign` a field first; a value is 0 or 1.
 pub enum RelationCall {
@@ -112,9 +115,9 @@ fn judged(
     ensures { λ r. ⌜ told r (memories (now (relations .exit)) (now (sets .entry)))
         ≡ step (relation-call call) (memories (now (relations .entry)) (now (sets .entry))) ⌝ }
 {
-    let k = relations[0];
-    let n = memory::wide(relations[1]);
-    let check = check(&relations[2..], n, k, call);
+    let k = relations[FIELDS];
+    let n = memory::wide(relations[RELATION_COUNT]);
+    let check = check(&relations[RELATION_HEAD..], n, k, call);
     match check {
         outcomes::Check::No(r) => outcomes::Answer::Declined(r),
         outcomes::Check::Level(l) => {
@@ -124,14 +127,14 @@ fn judged(
                 h: 0,
             };
             let r = perform(
-                &mut relations[2..],
+                &mut relations[RELATION_HEAD..],
                 work,
                 s,
                 memory::narrow(k),
                 memory::narrow(l),
                 call,
             );
-            outcomes::finish::finish(relations, 2, 4, n, r)
+            outcomes::finish::finish(relations, RELATION_COUNT, RELATION_HEAD, 4, n, r)
         }
     }
 }

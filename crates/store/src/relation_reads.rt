@@ -9,6 +9,9 @@ ghost use Rattle.store.specs.Calls.{relation-read, step};
 ghost use Rattle.store.specs.RelationCalls.{relation-read-declines, relation-read-answer};
 ghost use Rattle.outcomes.specs.Checking.{Checks, Answered, Accepted};
 ghost use Rattle.store.specs.RelationChecking.{RelationReadSafe, WalksPair};
+use judging::head::FIELDS;
+use judging::head::RELATION_COUNT;
+use judging::head::RELATION_HEAD;
 
 // A call with its arguments, after spp.rs; `relates` has a relation, an input and an output.
 pub enum RelationRead {
@@ -96,12 +99,18 @@ fn judged(relations: &[u32], sets: &[u32], work: &mut [u32], call: RelationRead)
     ensures { λ r. ⌜ told r (memories (now (relations .entry)) (now (sets .entry)))
         ≡ step (relation-read call) (memories (now (relations .entry)) (now (sets .entry))) ⌝ }
 {
-    let k = relations[0];
-    let n = memory::wide(relations[1]);
-    let check = check(&relations[2..], n, k, call);
+    let k = relations[FIELDS];
+    let n = memory::wide(relations[RELATION_COUNT]);
+    let check = check(&relations[RELATION_HEAD..], n, k, call);
     match check {
         outcomes::Check::No(r) => outcomes::Answer::Declined(r),
-        outcomes::Check::Level(l) => answer(&relations[2..], work, n, memory::narrow(l), call),
+        outcomes::Check::Level(l) => answer(
+            &relations[RELATION_HEAD..],
+            work,
+            n,
+            memory::narrow(l),
+            call,
+        ),
     }
 }
 

@@ -9,6 +9,9 @@ ghost use Rattle.store.specs.Calls.{set-call, step};
 ghost use Rattle.store.specs.SetCalls.{set-declines, set-program};
 ghost use Rattle.outcomes.specs.Checking.{Checks, Accepted};
 ghost use Rattle.store.specs.SetChecking.{SetFieldFits};
+use judging::head::FIELDS;
+use judging::head::SET_COUNT;
+use judging::head::SET_HEAD;
 
 // A call with its arguments, after sp.rs: handles, and for `test` and `ifelse` a field first; a value is 0 or 1.
 pub enum SetCall {
@@ -86,9 +89,9 @@ fn judged(relations: &[u32], sets: &mut [u32], work: &mut [u32], call: SetCall) 
     ensures { λ r. ⌜ told r (memories (now (relations .entry)) (now (sets .exit)))
         ≡ step (set-call call) (memories (now (relations .entry)) (now (sets .entry))) ⌝ }
 {
-    let k = relations[0];
-    let n = memory::wide(sets[0]);
-    let check = check(&sets[1..], n, k, call);
+    let k = relations[FIELDS];
+    let n = memory::wide(sets[SET_COUNT]);
+    let check = check(&sets[SET_HEAD..], n, k, call);
     match check {
         outcomes::Check::No(r) => outcomes::Answer::Declined(r),
         outcomes::Check::Level(l) => {
@@ -98,14 +101,14 @@ fn judged(relations: &[u32], sets: &mut [u32], work: &mut [u32], call: SetCall) 
                 h: 0,
             };
             let r = perform(
-                &mut sets[1..],
+                &mut sets[SET_HEAD..],
                 work,
                 s,
                 memory::narrow(k),
                 memory::narrow(l),
                 call,
             );
-            outcomes::finish::finish(sets, 1, 2, n, r)
+            outcomes::finish::finish(sets, SET_COUNT, SET_HEAD, 2, n, r)
         }
     }
 }

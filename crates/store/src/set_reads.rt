@@ -8,6 +8,9 @@ ghost use Rattle.store.specs.Calls.{set-read, step};
 ghost use Rattle.store.specs.SetCalls.{set-read-declines, set-read-answer};
 ghost use Rattle.outcomes.specs.Checking.{Checks, Answered, Accepted};
 ghost use Rattle.store.specs.SetChecking.{SetReadSafe};
+use judging::head::FIELDS;
+use judging::head::SET_COUNT;
+use judging::head::SET_HEAD;
 
 // A call with its arguments, after sp.rs.
 pub enum SetRead {
@@ -61,12 +64,12 @@ fn judged(relations: &[u32], sets: &[u32], work: &mut [u32], call: SetRead) -> o
     ensures { λ r. ⌜ told r (memories (now (relations .entry)) (now (sets .entry)))
         ≡ step (set-read call) (memories (now (relations .entry)) (now (sets .entry))) ⌝ }
 {
-    let k = relations[0];
-    let n = memory::wide(sets[0]);
-    let check = check(&sets[1..], n, k, call);
+    let k = relations[FIELDS];
+    let n = memory::wide(sets[SET_COUNT]);
+    let check = check(&sets[SET_HEAD..], n, k, call);
     match check {
         outcomes::Check::No(r) => outcomes::Answer::Declined(r),
-        outcomes::Check::Level(l) => answer(&sets[1..], work, n, memory::narrow(l), call),
+        outcomes::Check::Level(l) => answer(&sets[SET_HEAD..], work, n, memory::narrow(l), call),
     }
 }
 

@@ -2,6 +2,7 @@
 
 use crate::case::Case;
 use crate::library::{self, Asked, Memories};
+use crate::memory::RELATION_HEAD;
 use oracle::answer::Answer;
 use oracle::check::text_relation;
 use oracle::policy::judge;
@@ -38,7 +39,7 @@ pub fn compare(text: &[u8], handle: u32, fields: u32, case: &mut Case) -> Result
 fn walk(relations: &[u32], handle: u32, fields: u32, input: u32, output: u32) -> bool {
     let down = |at: u32, bit: u32| {
         let child = 2 * (input >> bit & 1) + (output >> bit & 1);
-        relations[(2 + 4 * (at - 2) + child) as usize]
+        relations[RELATION_HEAD + (4 * (at - 2) + child) as usize]
     };
     (0..fields).rev().fold(handle, down) == 1
 }

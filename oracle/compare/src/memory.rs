@@ -5,9 +5,12 @@ use oracle::store::Store;
 const MOST_PLACES: usize = 4096;
 const MOST_FIELDS: u32 = 32;
 
-/// The numbers before the nodes.
-const RELATION_HEAD: usize = 2;
+/// The numbers before the nodes, and the places of k and of the counts among them.
+pub const RELATION_HEAD: usize = 2;
+const FIELDS: usize = 0;
+const RELATION_COUNT: usize = 1;
 const SET_HEAD: usize = 1;
+const SET_COUNT: usize = 0;
 
 /// How many nodes of this many numbers fit after the head.
 fn places(numbers: &[u32], head: usize, node: usize) -> usize {
@@ -34,8 +37,9 @@ pub fn headed(relations: &[u32], sets: &[u32]) -> bool {
 /// Writes a store: the heads, the nodes, and zeros in the free places. Numbers beyond the last stay.
 pub fn encode(store: &Store, relations: &mut [u32], sets: &mut [u32]) {
     let (n, m) = store.counts();
-    relations[..RELATION_HEAD].copy_from_slice(&[store.fields(), n]);
-    sets[..SET_HEAD].copy_from_slice(&[m]);
+    relations[FIELDS] = store.fields();
+    relations[RELATION_COUNT] = n;
+    sets[SET_COUNT] = m;
     fill(relations, RELATION_HEAD, store.relation_nodes());
     fill(sets, SET_HEAD, store.set_nodes());
 }
@@ -53,14 +57,14 @@ fn fill<const N: usize>(
 
 /// The store that two memories hold, if they hold one. The oracle judges the nodes.
 pub fn decode(relations: &[u32], sets: &[u32]) -> Option<Store> {
-    if !headed(relations, sets) || relations[0] > MOST_FIELDS {
+    if !headed(relations, sets) || relations[FIELDS] > MOST_FIELDS {
         return None;
     }
     let (relation_places, set_places) = places_in(relations, sets);
-    let relation_nodes = nodes::<4>(relations, RELATION_HEAD, relations[1] as usize)?;
-    let set_nodes = nodes::<2>(sets, SET_HEAD, sets[0] as usize)?;
+    let relation_nodes = nodes::<4>(relations, RELATION_HEAD, relations[RELATION_COUNT] as usize)?;
+    let set_nodes = nodes::<2>(sets, SET_HEAD, sets[SET_COUNT] as usize)?;
     let (p, q) = (relation_places as u32, set_places as u32);
-    Store::with_nodes(relations[0], p, q, &relation_nodes, &set_nodes).ok()
+    Store::with_nodes(relations[FIELDS], p, q, &relation_nodes, &set_nodes).ok()
 }
 
 /// The first nodes, if there are as many places and the other places are zero.

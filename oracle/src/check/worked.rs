@@ -33,7 +33,7 @@ const LISTS: [&[(&str, &str)]; 4] = [
     ],
     &[("new 0 0 0", "o"), ("rel.zero", "h 0"), ("rel.one", "h 1"), ("top", "h 1")],
     &[("new 32 4096 4096", "o"), ("new 33 4096 4096", "r 5")],
-    // Relation memory of 14 and 13 numbers, set memory of 3 and 2.
+    // At k = 1 three relation places and one set place suffice, one less of either does not.
     &[("new 1 3 1", "o"), ("new 1 2 1", "r 6"), ("new 1 3 0", "r 6")],
 ];
 

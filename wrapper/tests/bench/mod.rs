@@ -96,26 +96,26 @@ pub const DAMAGES: [fn(&mut Bench); 18] = [
     // Lengths, k and counts.
     |b| drop(b.sets.drain(..)),
     |b| drop(b.relations.drain(..)),
-    |b| b.relations.truncate(1),
-    |b| b.relations.truncate(25),
-    |b| b.sets.truncate(4),
-    |b| b.relations[0] = 33,
-    |b| b.relations[1] = 7,
-    |b| b.sets[0] = 5,
+    |b| b.relations.truncate(RELATION_HEAD - 1),
+    |b| b.relations.truncate(relations_len(6) - 1),
+    |b| b.sets.truncate(sets_len(2) - 1),
+    |b| b.relations[FIELDS] = 33,
+    |b| b.relations[RELATION_COUNT] = 7,
+    |b| b.sets[SET_COUNT] = 5,
     // A free place that is not zero, and an odd first child.
-    |b| b.sets[0] = 1,
-    |b| b.sets[8] = 1,
-    |b| b.sets[1] = 1,
+    |b| b.sets[SET_COUNT] = 1,
+    |b| b.sets[sets_len(3) + 1] = 1,
+    |b| b.sets[SET_HEAD] = 1,
     // A child that is the node itself, that comes later, that is not held.
-    |b| b.sets[3] = 4,
-    |b| b.sets[1] = 4,
-    |b| b.relations[2] = u32::MAX,
+    |b| b.sets[sets_len(1)] = 4,
+    |b| b.sets[SET_HEAD] = 4,
+    |b| b.relations[RELATION_HEAD] = u32::MAX,
     // Children of two levels, a level above k, equal nodes of each kind.
-    |b| b.sets[4] = 0,
+    |b| b.sets[sets_len(1) + 1] = 0,
     |b| {
-        b.sets[0] = 3;
-        b.sets[5..7].fill(4);
+        b.sets[SET_COUNT] = 3;
+        b.sets[sets_len(2)..sets_len(3)].fill(4);
     },
-    |b| b.sets[3..5].fill(0),
-    |b| b.relations.copy_within(2..6, 6),
+    |b| b.sets[sets_len(1)..sets_len(2)].fill(0),
+    |b| b.relations.copy_within(RELATION_HEAD..relations_len(1), relations_len(1)),
 ];

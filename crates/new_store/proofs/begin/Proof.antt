@@ -19,12 +19,10 @@ ends c = let a = c .before .before .args in
 
 returns : tie.Need-returns
 returns c =
-    let c4 = c .before .before .before .before in
-    let c6 = c4 .before .before in
-    let a = c6 .args in
-    let p = c4 .places-of in
-    ap (λ (x : List ℕ). put x (a .start - 1) 0) (cleared-by _ _ _ _ (ends (c4)) (c .before .before .clear .ensures)
-    ∙ ap (λ n. cleared (a .start) (a .start + a .c * n) (a .memory .now)) (p .ensures))
+    let at-places = c .before .before .before .before in
+    let a = at-places .before .before .args in
+    ap (λ (x : List ℕ). put x (a .at) 0) (cleared-by _ _ _ _ (ends at-places) (c .before .before .clear .ensures)
+    ∙ ap (λ n. cleared (a .start) (a .start + a .c * n) (a .memory .now)) (at-places .places-of .ensures))
 
 pub begin-spec : {M : Type 1} → statement M
 begin-spec =
@@ -39,7 +37,6 @@ begin-spec =
     (λ c. search needs)
     (λ c. ends c)
     (λ c κs. search needs)
-    (λ c. search needs)
     (λ c. search needs)
     (λ c. search needs)
     (λ c. search needs)

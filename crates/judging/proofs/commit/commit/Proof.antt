@@ -30,7 +30,6 @@ commit-spec =
     (λ c. search needs)
     (λ c. search needs)
     (λ c. search needs)
-    (λ c. search needs)
     returns
     (λ c. omega (arith, grown c, c .before .before .pre))
     (λ c. omega (arith, grown c, c .before .before .pre))

@@ -8,10 +8,10 @@ use Rattle.judging.proofs.room.has_room.Statement.{statement}
 use Rattle.judging.proofs.room.has_room.Tie as tie
 
 returns : tie.Need-returns
-returns c = λ K a b. no-head K _ _ _ a b (c .if1 .taken)
+returns c = λ K e a b. no-head K _ _ _ _ e a b (c .if1 .taken)
 
 returns-2 : tie.Need-returns-2
-returns-2 c = λ K a b. too-many K _ _ _ a b _ _ (c .before .before .before .places-of .ensures) (c .before .wide .ensures) (c .if2 .taken)
+returns-2 c = λ K e a b. too-many K _ _ _ _ e a b _ _ (c .before .before .before .places-of .ensures) (c .before .wide .ensures) (c .if2 .taken)
 
 -- the nodes that are there, and the places, end within the memory
 ends : (c : tie.Else2) → (let a = c .before .before .before .before .before .before .args in let p = c .before .before .before .places-of .result in
@@ -19,7 +19,7 @@ ends : (c : tie.Else2) → (let a = c .before .before .before .before .before .b
 ends c = part-ends _ _ _ _ (c .before .before .before .places-of .ensures) (omega arith)
 
 returns-3 : tie.Need-returns-3
-returns-3 c = λ K a b. room-is K _ _ _ a b _ _ (c .before .before .before .before .places-of .ensures) (c .before .before .wide .ensures) (omega arith)
+returns-3 c = λ K e a b. room-is K _ _ _ _ e a b _ _ (c .before .before .before .before .places-of .ensures) (c .before .before .wide .ensures) (omega arith)
     (omega arith) (c .zeros .ensures)
 
 pub has-room-spec : {M : Type 1} → statement M
@@ -29,7 +29,6 @@ has-room-spec =
     returns
     (λ c. search needs)
     (λ c κs. search needs)
-    (λ c. search needs)
     (λ c. search needs)
     (λ c. search needs)
     (λ c κs. search needs)

@@ -9,15 +9,15 @@ use Rattle.judging.proofs.room.heads_fit.Statement.{statement}
 use Rattle.judging.proofs.room.heads_fit.Tie as tie
 
 returns : tie.Need-returns
-returns c = no-room rel (c .before .has-room .ensures rel refl refl) (not-true _ (c .if1 .taken))
+returns c = no-room rel (c .before .has-room .ensures rel refl refl refl) (not-true _ (c .if1 .taken))
 
 returns-2 : tie.Need-returns-2
-returns-2 c = no-room set (c .before .has-room2 .ensures set refl refl) (not-true _ (c .if2 .taken))
+returns-2 c = no-room set (c .before .has-room2 .ensures set refl refl refl) (not-true _ (c .if2 .taken))
 
 returns-3 : tie.Need-returns-3
 returns-3 c =
     let i = c .before .before .before in
-    heads-say (i .before .has-room .ensures rel refl refl) (c .before .before .has-room2 .ensures set refl refl) (not-false _ (i .if1 .left))
+    heads-say (i .before .has-room .ensures rel refl refl refl) (c .before .before .has-room2 .ensures set refl refl refl) (not-false _ (i .if1 .left))
     (not-false _ (c .before .if2 .left)) (few-say _)
 
 pub heads-fit-spec : {M : Type 1} → statement M
@@ -28,5 +28,5 @@ heads-fit-spec =
     returns
     (λ c κs. search needs)
     returns-2
-    (λ c. let i = c .before .before .before in omega (arith, room-headed rel _ (i .before .has-room .ensures rel refl refl) (not-false _ (i .if1 .left))))
+    (λ c. let i = c .before .before .before in omega (arith, room-headed rel _ (i .before .has-room .ensures rel refl refl refl) (not-false _ (i .if1 .left))))
     returns-3)

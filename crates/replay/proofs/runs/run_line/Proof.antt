@@ -1,4 +1,6 @@
 -- A call is lent the heads, and no more than there is.
+use Rattle.nodes.specs.Store.{set, rel}
+use Rattle.judging.specs.Memory.{head}
 use Rattle.replay.proofs.Prefix.{prefix, prefix-long}
 use borrow.Author.Needs.{needs}
 use Rattle.replay.proofs.runs.run_line.Statement.{statement}
@@ -47,8 +49,8 @@ operation-requires : tie.Need-operation-requires
 operation-requires c κs =
     let at-start = c .before .before .before .before .before .before .before .before .before .before in
     let lent = at-start .args .lent in (
-      prefix-long 2 (lent .relations) (at-start .args .relations .now) (at-start .pre .relations) (at-start .pre .head),
-      prefix-long 1 (lent .sets) (at-start .args .sets .now) (at-start .pre .sets) (at-start .pre .first),
+      prefix-long (head rel) (lent .relations) (at-start .args .relations .now) (at-start .pre .relations) (at-start .pre .relation-head),
+      prefix-long (head set) (lent .sets) (at-start .args .sets .now) (at-start .pre .sets) (at-start .pre .set-head),
     )
 
 same-length-4 : tie.Need-same-length-4
