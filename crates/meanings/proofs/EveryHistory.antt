@@ -14,10 +14,10 @@ use Rattle.nodes.proofs.Policies.{one-handle↔}
 use Rattle.judging.specs.Memory.{Memories, fields, decode}
 use Rattle.store.specs.Calls.{new-store, step}
 use Rattle.outcomes.specs.OnMemories.{set-places, rel-places}
-use Rattle.outcomes.specs.Outcome.{told, retold, concludes}
+use Rattle.outcomes.specs.Outcome.{told, retold}
 use Rattle.outcomes.specs.declared.Answer.the-variants as store
 use Rattle.outcomes.specs.declared.Refusal.the-variants.{UsedUp}
-use Rattle.policies.specs.Outcome.{refused, text-verdict, policy-step}
+use Rattle.policies.specs.Outcome.{refused, policy-step}
 use Rattle.policies.specs.declared.PolicyAnswer.the-variants.{Handle, Declined}
 use Rattle.policies.specs.declared.PolicyRefusal.the-variants.{Store}
 use Rattle.meanings.specs.AllCalls.{AnyCall, policy, answered, read, any-step, all-calls, text-relates, Keeps, policy-of}
@@ -25,23 +25,23 @@ use Rattle.meanings.specs.EveryHistory.{arguments, answers, AcceptedIn, 
 use Rattle.meanings.specs.Histories.{Made, LentInTurn, left-after, NoneRenews, History}
 use Rattle.meanings.specs.OneText.{TextRight}
 use Rattle.meanings.specs.Lists.{steps, AllGoOn, ListRight, Matches, HandlesLast, after-new}
-use Rattle.meanings.specs.PlainStore.{plain-store, on-lists, plain-policy-step}
+use Rattle.meanings.specs.PlainStore.{Plain, plain-store, plain-policy-step}
 use Rattle.meanings.proofs.AllCalls.{policy-alike, any-right}
 use Rattle.meanings.proofs.Histories.{comes-to, made-answers, made-end, made-goes-on, left-parted, lent-before, lent-later, none-before}
-use Rattle.meanings.proofs.KeptTexts.{kept-builds}
 use Rattle.meanings.proofs.Lists.{lists-right}
 use Rattle.meanings.proofs.OneText.{text-right}
+use Rattle.meanings.proofs.PlainText.{plain-text}
 
--- the answer of a policy that is built
-built-answer : {X : Type 0} (m n k : ℕ) (t : List ℕ) (r : Keeps k t) (S : Nodes) (x : X) (put : Nodes → X)
-    → (let R = run (policy-program k (policy-of r)) S in
-    concludes (refused UsedUp) m n (text-verdict t k S) S x put .answer ≡ pick (fits-places m n (R .store)) (Handle (R .value)) (Declined (Store UsedUp)))
-unfolding concludes
-built-answer m n k t r S x put = let R = run (policy-program k (policy-of r)) S in
-    ap (λ v. concludes (refused UsedUp) m n v S x put .answer) (kept-builds k t S r)
-    ∙ by-test (λ b. pick b (told (Handle (R .value)) (put (R .store))) (told (Declined (Store UsedUp)) x) .answer
-    ≡ pick b (Handle (R .value)) (Declined (Store UsedUp)))
-    (fits-places m n (R .store)) (λ _. refl) (λ _. refl)
+-- what the plain store P answers to a text that keeps the rules
+kept-answer : (m n k : ℕ) (t : List ℕ) (P : Plain) → P .width ≡ k → (r : Keeps k t) → (let R = run (policy-program k (policy-of r)) (P .lists) in
+    plain-policy-step m n t P .answer ≡ pick (fits-places m n (R .store)) (Handle (R .value)) (Declined (Store UsedUp)))
+kept-answer m n k t P w =
+    subst (λ j. (r : Keeps j t) → (let R = run (policy-program j (policy-of r)) (P .lists) in
+    plain-policy-step m n t P .answer ≡ pick (fits-places m n (R .store)) (Handle (R .value)) (Declined (Store UsedUp)))) w
+    (λ r. let R = run (policy-program (P .width) (policy-of r)) (P .lists) in
+    ap (λ o. o .answer) (plain-text m n t P .kept r)
+    ∙ by-test (λ b. pick b (told (Handle (R .value)) (plain-store (P .width) (R .store))) (told (Declined (Store UsedUp)) P) .answer
+    ≡ pick b (Handle (R .value)) (Declined (Store UsedUp))) (fits-places m n (R .store)) (λ _. refl) (λ _. refl))
 
 module _ (H : History) where
   abbrev k : ℕ
@@ -132,18 +132,13 @@ module _ (H : History) where
     answered-it : (r : Keeps k t)
         → it .answer ≡ read (pick (fits-places (set-places M₀) (rel-places M₀) (plain-run H before (policy-of r) .store))
         (Handle (plain-run H before (policy-of r) .value)) (Declined (Store UsedUp)))
-    unfolding plain-policy-step on-lists
     answered-it r =
         let A = right (arguments before) .matches in
-        let P = plain-after H before .state in
-        let m = set-places M₀ in
-        let n = rel-places M₀ in
-        let there = end-stepped before (lent-first before (it ∷ later) is) in
-        let width = sym (A .width) ∙ ap fields (sym there) ∙ width-after before (lent-first before (it ∷ later) is) (none-first before (it ∷ later) is) in
+        let first = lent-first before (it ∷ later) is in
+        let there = end-stepped before first in
+        let width = sym (A .width) ∙ ap fields (sym there) ∙ width-after before first (none-first before (it ∷ later) is) in
         ap (λ u. u .answer) it-comes ∙ ap (λ X. read (policy-step t X .answer)) (lent-it ∙ there)
-        ∙ ap read (policy-alike A t .answer
-        ∙ ap (λ j. concludes (refused UsedUp) m n (text-verdict t j (P .lists)) (P .lists) P (plain-store (P .width)) .answer) width
-        ∙ built-answer m n k t r (P .lists) P (plain-store (P .width)))
+        ∙ ap read (policy-alike A t .answer ∙ kept-answer (set-places M₀) (rel-places M₀) k t (plain-after H before .state) width r)
 
   abbrev Accepted : List ℕ → ℕ → Type 0
   Accepted t h = AcceptedIn (H .calls) t h

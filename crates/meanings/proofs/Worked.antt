@@ -26,6 +26,7 @@ use Rattle.outcomes.specs.declared.Answer.the-variants.{Handle, Declined}
 use Rattle.outcomes.specs.declared.Refusal.{Refusal}
 use Rattle.outcomes.specs.declared.Refusal.the-variants.{OutOfRange, UsedUp}
 use Rattle.store.specs.Calls.{new-store, step}
+use Rattle.new_store.specs.Creating.{places-for}
 use Rattle.new_store.proofs.Creating.{new-range, full-relations, full-sets, fits-new}
 use Rattle.texts.specs.XForms.{x-begins?, x-whole?, number, no-field?}
 use Rattle.texts.specs.Machine.{run as runs, final, step as moves, onward, mid-step, mid-go, after-name, close, join-seq, join-plus, negs, nesting, leaf, reads}
@@ -71,25 +72,19 @@ unfolding run new constant identity-at-depth
 new-gives zero = refl
 new-gives (suc k) = new-value (suc k) (omega arith)
 
--- ON MEMORIES of a numbers for relations and b for sets: how many nodes these hold, and whether `new k` is accepted there
-abbrev rels-in : ℕ → ℕ
-rels-in a = min 4096 ((a - head rel) / arity rel)
-
-abbrev sets-in : ℕ → ℕ
-sets-in b = min 4096 ((b - head set) / arity set)
-
+-- ON MEMORIES of a numbers for relations and b for sets: whether `new k` is accepted there
 abbrev enough? : ℕ → ℕ → ℕ → Bool
-enough? k a b = leb k 32 && (leb (head rel) a && (leb (head set) b && (leb (3 * k) (rels-in a) && leb k (sets-in b))))
+enough? k a b = leb k 32 && (leb (head rel) a && (leb (head set) b && (leb (3 * k) (places-for rel a) && leb k (places-for set b))))
 
 -- a table that begins with an accepted `new`
-module _ (k a b : ℕ) (t : List Row) (enough : enough? k a b ≡ true) (plain : Plainly k (sets-in b) (rels-in a) t) where
+module _ (k a b : ℕ) (t : List Row) (enough : enough? k a b ≡ true) (plain : Plainly k (places-for set b) (places-for rel a) t) where
   accepted : (M : Memories) → length (M .relations) ≡ a → length (M .sets) ≡ b → step (new-store k) M .answer ≡ Handle (top-of k)
   unfolding step
   accepted M ea eb =
       let u = and-T (leb k 32) _ (subst T (sym enough) tt) in
       let v = and-T (leb (head rel) a) _ (u .1) in
       let w = and-T (leb (head set) b) _ (v .1) in
-      let x = and-T (leb (3 * k) (rels-in a)) _ (w .1) in
+      let x = and-T (leb (3 * k) (places-for rel a)) _ (w .1) in
       ap (λ r. r .answer) (sym (fits-new k a b M ea eb (leb→le _ _ (u .0)) (leb→le _ _ (v .0)) (leb→le _ _ (w .0)) (leb→le _ _ (x .0)) (leb→le _ _ (x .1))))
       ∙ ap Handle (new-gives k)
 
@@ -97,8 +92,8 @@ module _ (k a b : ℕ) (t : List Row) (enough : enough? k a b ≡ true) (plain :
   unfolding in-turn any-step
   begins M ea eb =
       let e = accepted M ea eb in
-      let m : set-places M ≡ sets-in b = ap (λ l. min 4096 (l / arity set)) (length-drop (head set) (M .sets) ∙ ap (λ l. l - head set) eb) in
-      let n : rel-places M ≡ rels-in a = ap (λ l. min 4096 (l / arity rel)) (length-drop (head rel) (M .relations) ∙ ap (λ l. l - head rel) ea) in
+      let m : set-places M ≡ places-for set b = ap (λ l. min 4096 (l / arity set)) (length-drop (head set) (M .sets) ∙ ap (λ l. l - head set) eb) in
+      let n : rel-places M ≡ places-for rel a = ap (λ l. min 4096 (l / arity rel)) (length-drop (head rel) (M .relations) ∙ ap (λ l. l - head rel) ea) in
       let cs = map (λ w. w .0) t in
       let later = lists-right all-calls (λ M₀ M P A c. any-right A c) k M (top-of k) e cs .answers
       ∙ (λ i. plain-steps all-calls (m i) (n i) cs (begun k) .answers) ∙ plain in
