@@ -8,11 +8,7 @@ ghost use Rattle.nodes.specs.Store.{Kind, arity, handle-of};
 ghost use Rattle.nodes.specs.WellFormed.{Even};
 ghost use Rattle.judging.specs.Memory.{memories};
 ghost use Rattle.judging.specs.Judging.{Tests, Earlier, LevelWalked, NodeLevel, FitsNext, Judged, BothJudged, StoreJudged};
-use crate::head::FIELDS;
-use crate::head::RELATION_COUNT;
-use crate::head::RELATION_HEAD;
-use crate::head::SET_COUNT;
-use crate::head::SET_HEAD;
+use crate::head::*;
 
 pub mod commit;
 pub mod head;

@@ -8,11 +8,7 @@ ghost use Rattle.nodes.specs.Programs.{all-below};
 ghost use Rattle.judging.specs.Memory.{head, count-at, memories};
 ghost use Rattle.judging.specs.Judging.{Tests, HeadsFit};
 ghost use Rattle.judging.specs.Valid.{room?};
-use crate::head::FIELDS;
-use crate::head::RELATION_COUNT;
-use crate::head::RELATION_HEAD;
-use crate::head::SET_COUNT;
-use crate::head::SET_HEAD;
+use crate::head::*;
 
 // Whether the numbers from s to before e are zero.
 fn zeros(m: &[u32], s: usize, e: usize) -> bool

@@ -9,8 +9,7 @@ ghost use Rattle.listing.specs.Lines.{lines};
 ghost use Rattle.listing.specs.Listing.{zeroed, listed};
 ghost use Rattle.listing.specs.Writing.{PolicyLine, PolicyLines};
 ghost use Rattle.listing.specs.declared.fields.Width.the-variants.{Is};
-use judging::head::RELATION_COUNT;
-use judging::head::SET_COUNT;
+use judging::head::*;
 
 // A new store of k fields.
 fn begin(relations: &mut [u32], sets: &mut [u32], work: &mut [u32], k: u32)

@@ -9,11 +9,7 @@ ghost use Rattle.judging.specs.Memory.{memories};
 ghost use Rattle.outcomes.specs.Promise.{Meets};
 ghost use Rattle.outcomes.specs.OnMemories.{new-step};
 ghost use Rattle.new_store.specs.Creating.{set-constants, relation-constants, NewChecked, emptied, Begun, Created};
-use judging::head::FIELDS;
-use judging::head::RELATION_COUNT;
-use judging::head::RELATION_HEAD;
-use judging::head::SET_COUNT;
-use judging::head::SET_HEAD;
+use judging::head::*;
 
 // The numbers of a working memory with an index and a small memo.
 const LENT: usize = 12288;

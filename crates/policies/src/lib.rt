@@ -11,9 +11,7 @@ ghost use Rattle.texts.specs.Reading.{reading};
 ghost use Rattle.texts.specs.declared.Reading.the-variants.{Policy};
 ghost use Rattle.policies.specs.Answers.{fault-number};
 ghost use Rattle.policies.specs.Outcome.{policy-step, short?};
-use judging::head::FIELDS;
-use judging::head::RELATION_COUNT;
-use judging::head::RELATION_HEAD;
+use judging::head::*;
 
 // What is wrong at a place in a text.
 pub enum Fault {

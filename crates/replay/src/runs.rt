@@ -5,10 +5,7 @@ ghost use Rattle.nodes.specs.Store.{set, rel};
 ghost use Rattle.judging.specs.Memory.{head};
 ghost use Rattle.replay.specs.Lending.{Lends, Goes};
 use crate::calls::Call;
-use judging::head::RELATION_COUNT;
-use judging::head::RELATION_HEAD;
-use judging::head::SET_COUNT;
-use judging::head::SET_HEAD;
+use judging::head::*;
 
 // How many numbers of each memory are lent.
 pub struct Lent {

@@ -9,11 +9,7 @@ ghost use Rattle.outcomes.specs.Promise.{Meets};
 ghost use Rattle.store.specs.Calls.{image-call, step};
 ghost use Rattle.store.specs.ImageCalls.{image-declines, image-program};
 ghost use Rattle.outcomes.specs.Checking.{ChecksBoth, Accepted};
-use judging::head::FIELDS;
-use judging::head::RELATION_COUNT;
-use judging::head::RELATION_HEAD;
-use judging::head::SET_COUNT;
-use judging::head::SET_HEAD;
+use judging::head::*;
 
 // A call with its arguments, after spp.rs: `fwd` and `bwd` of a relation, `push` of a set through a relation, `pull` of a relation and a set.
 pub enum ImageCall {

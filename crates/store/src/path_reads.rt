@@ -10,11 +10,7 @@ ghost use Rattle.store.specs.Calls.{path-read, step};
 ghost use Rattle.store.specs.ImageCalls.{path-declines, path-answer};
 ghost use Rattle.store.specs.ImageChecking.{PathSafe};
 ghost use Rattle.outcomes.specs.Checking.{ChecksBoth, AnsweredOn, Accepted};
-use judging::head::FIELDS;
-use judging::head::RELATION_COUNT;
-use judging::head::RELATION_HEAD;
-use judging::head::SET_COUNT;
-use judging::head::SET_HEAD;
+use judging::head::*;
 
 // A call with its arguments, after spp.rs: an input set and a relation, and for `has_path` an output set.
 pub enum PathRead {

@@ -9,9 +9,7 @@ ghost use Rattle.store.specs.Calls.{relation-call, step};
 ghost use Rattle.store.specs.RelationCalls.{relation-declines, relation-program};
 ghost use Rattle.outcomes.specs.Checking.{Checks, Accepted};
 ghost use Rattle.store.specs.RelationChecking.{RelationFieldFits};
-use judging::head::FIELDS;
-use judging::head::RELATION_COUNT;
-use judging::head::RELATION_HEAD;
+use judging::head::*;
 
 // A call with its arguments, after spp.rs: handles, and for `test` and `assign` a field first; a value is 0 or 1.
 pub enum RelationCall {

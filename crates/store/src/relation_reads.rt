@@ -9,9 +9,7 @@ ghost use Rattle.store.specs.Calls.{relation-read, step};
 ghost use Rattle.store.specs.RelationCalls.{relation-read-declines, relation-read-answer};
 ghost use Rattle.outcomes.specs.Checking.{Checks, Answered, Accepted};
 ghost use Rattle.store.specs.RelationChecking.{RelationReadSafe, WalksPair};
-use judging::head::FIELDS;
-use judging::head::RELATION_COUNT;
-use judging::head::RELATION_HEAD;
+use judging::head::*;
 
 // A call with its arguments, after spp.rs; `relates` has a relation, an input and an output.
 pub enum RelationRead {

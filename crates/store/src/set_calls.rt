@@ -9,9 +9,7 @@ ghost use Rattle.store.specs.Calls.{set-call, step};
 ghost use Rattle.store.specs.SetCalls.{set-declines, set-program};
 ghost use Rattle.outcomes.specs.Checking.{Checks, Accepted};
 ghost use Rattle.store.specs.SetChecking.{SetFieldFits};
-use judging::head::FIELDS;
-use judging::head::SET_COUNT;
-use judging::head::SET_HEAD;
+use judging::head::*;
 
 // A call with its arguments, after sp.rs: handles, and for `test` and `ifelse` a field first; a value is 0 or 1.
 pub enum SetCall {

@@ -8,9 +8,7 @@ ghost use Rattle.store.specs.Calls.{set-read, step};
 ghost use Rattle.store.specs.SetCalls.{set-read-declines, set-read-answer};
 ghost use Rattle.outcomes.specs.Checking.{Checks, Answered, Accepted};
 ghost use Rattle.store.specs.SetChecking.{SetReadSafe};
-use judging::head::FIELDS;
-use judging::head::SET_COUNT;
-use judging::head::SET_HEAD;
+use judging::head::*;
 
 // A call with its arguments, after sp.rs.
 pub enum SetRead {
