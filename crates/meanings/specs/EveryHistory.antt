@@ -73,7 +73,7 @@ module _ (H : History) where
     pub one-handle : (t u : List ℕ) (g h : ℕ) → AcceptedIn (H .calls) t g → AcceptedIn (H .calls) u h
         → (g ≡ h) ↔ Same (H .width) (text-relates (H .width) t) (text-relates (H .width) u)
     -- a text that keeps the rules is refused exactly when the plain store ends longer than the places, and then with 6;
-    -- else it has the handle that the plain store gives it
+    -- else it has the handle that the plain store gives it. The plain store's own step on the texts before is by the grammar alone: PlainText
     pub refused : (t : List ℕ) (before later : List Made) (it : Made) → H .calls ≡ before ++ (it ∷ later) → it .what ≡ policy t
         → (r : Keeps (H .width) t)
         → it .answer ≡ read (pick (fits-places (set-places lent) (rel-places lent) (plain-run before (policy-of r) .store))
