@@ -108,7 +108,8 @@ module _ (m n : ℕ) where
   reads-stay (call (set-call c)) P e = absurd (no-both e refl)
   reads-stay (call (set-read c)) P e = answers-stay (set-read-declines (P .width) c (P .lists)) (λ l. set-read-answer (P .lists) l c) (P .lists) P _
   reads-stay (call (relation-call c)) P e = absurd (no-both e refl)
-  reads-stay (call (relation-read c)) P e = answers-stay (relation-read-declines (P .width) c (P .lists)) (λ l. relation-read-answer (P .lists) l c) (P .lists) P _
+  reads-stay (call (relation-read c)) P e = answers-stay (relation-read-declines (P .width) c (P .lists)) (λ l. relation-read-answer (P .lists) l c)
+      (P .lists) P _
   reads-stay (call (image-call c)) P e = absurd (no-both e refl)
   reads-stay (call (filter-call c)) P e = absurd (no-both e refl)
   reads-stay (call (path-read c)) P e = answers-stay (path-declines (P .width) c (P .lists)) (λ l. path-answer (P .lists) l c) (P .lists) P _

@@ -25,7 +25,7 @@ use Rattle.store.specs.declared.relation_calls.RelationCall.the-variants as R
 use Rattle.store.specs.declared.set_calls.SetCall.the-variants as T
 use Rattle.meanings.specs.Lists.{Matches}
 use Rattle.meanings.specs.NewStore.{There, NewRight}
-use Rattle.meanings.specs.PlainStore.{Plain, plain-store, on-lists, plain-step, begun}
+use Rattle.meanings.specs.PlainStore.{Plain, plain-store, asked, on-lists, plain-step, begun}
 use Rattle.meanings.proofs.CallMeans.{set-call-means, relation-call-means}
 use Rattle.outcomes.proofs.Encoding.{encode-count}
 use Rattle.meanings.proofs.Matching.{matches-space}
@@ -131,7 +131,7 @@ module _ (k : ℕ) (M : Memories) (h : ℕ) (e : step (new-store k) M .answer �
 
   -- THE THEOREM
   pub new-right : NewRight k M M′ h
-  unfolding plain-step on-lists relation-meaning set-meaning
+  unfolding plain-step asked on-lists relation-meaning set-meaning
   new-right = let t = parts k in record {
     store = A .store;
     width = A .width;

@@ -3,7 +3,7 @@ use mathlib.Core.Path.{_≡_, ap, _∙_}
 use mathlib.Core.List.{List}
 use Prim.Native.Nat.{ℕ}
 use Rattle.judging.specs.Memory.{Memories}
-use Rattle.outcomes.specs.Outcome.{Told}
+use Rattle.outcomes.specs.Outcome.{Told, told}
 use Rattle.outcomes.specs.Promise.{Meets}
 use Rattle.packing.specs.Returns.{Returns}
 
@@ -14,3 +14,8 @@ module _ {A : Type 0} (pack : A → ℕ) (out : Told A Memories) (M′ : Memorie
     state = ap (λ (t : Told A Memories). t .state) (says .0);
     zeros = says .1;
   }
+
+-- and back: a call under a C name is a call that meets its promise, its answer packed
+pub meets : {A : Type 0} {pack : A → ℕ} {out : Told A Memories} {M′ : Memories} {w w′ : List ℕ} {r : ℕ}
+    → Returns pack out M′ w w′ r → Meets out M′ w w′ (out .answer) × (r ≡ pack (out .answer))
+meets {out = out} R = ((λ i. told (out .answer) (R .state i), R .zeros), R .answer)

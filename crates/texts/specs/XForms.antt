@@ -1,4 +1,4 @@
--- The x forms `x0` to `x31`, the lexicon of document 01.
+-- The x forms, `x` and a number N: the lexicon of document 01.
 use Prim.Native.Nat.{ℕ, _≤_, _+_, _-_, _*_}
 use mathlib.Core.List.{List, [], _∷_}
 use mathlib.Core.Bool.{Bool, true, false, cond, _&&_}
