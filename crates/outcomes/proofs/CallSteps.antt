@@ -78,7 +78,8 @@ module _ (K : Kind) (M : Memories) (w : List ℕ) (Y : Accepted K M w) (n : ℕ)
             × (head K + arity K * s .n ≤ length (putMid (head K) (length (memory K M) - head K) (memory K M) b))
         adding-within = within-memory K M w Y n en on _ _ b w′ s same safe-here P
 
-        pub adding-ran : (m′ : List ℕ) (a : A) → Committed (putMid (head K) (length (memory K M) - head K) (memory K M) b) m′ (count-at K) (head K) (arity K) n s
+        pub adding-ran : (m′ : List ℕ) (a : A)
+            → Committed (putMid (head K) (length (memory K M) - head K) (memory K M) b) m′ (count-at K) (head K) (arity K) n s
             → Ends K (decode M) s (run (Z .program (fields M) l) (decode M)) (Z .answer (decode M)) (refuse UsedUp) a → told a (with-memory K m′ M) ≡ t M
         adding-ran m′ a C E = ran-here K M w Y n en on _ _ b w′ s same safe-here P refuse _ _ m′ a (check-goes M (Y .store) (Z .judge) r G refuse _ l e) C E
             ∙ sym (Z .steps M)

@@ -78,8 +78,13 @@ loop-less c = omega arith
 
 loop-again : tie.Need-loop-again Inv-loop μ-loop
 loop-again c =
-    let on = lends _ _ _ _ (c .before .l .given .1) (c .before .before .before .before .before .before .before .before .before .run-line .ensures) in
-    (omega arith, record { relation-head = on .relation-head; relations = omega arith; set-head = on .set-head; sets = omega arith }, omega arith, omega arith, omega arith)
+    let on = lends _ _ _ _ (c .before .l .given .1) (c .before .before .before .before .before .before .before .before .before .run-line .ensures) in (
+      omega arith,
+      record { relation-head = on .relation-head; relations = omega arith; set-head = on .set-head; sets = omega arith },
+      omega arith,
+      omega arith,
+      omega arith,
+    )
 
 same-length-4 : tie.Need-same-length-4 Inv-loop μ-loop
 same-length-4 c = search needs
