@@ -69,7 +69,7 @@ fn each_call_that_adds_is_refused_where_places_are_used_up() {
     assert_eq!(bench.add_relation(|r, s, w| relation_backward(r, s, w, 5)), Err(UsedUp));
     assert_eq!(bench.add_relation(|r, s, w| relation_naive_forward(r, s, w, 6)), Ok(6));
     // A store that holds no node, in memory without places.
-    let mut bench = Bench { relations: vec![1, 0], sets: vec![0], work: vec![7; 9] };
+    let mut bench = Bench::bare(1, 0, 0);
     for call in [relation_zero, relation_one, relation_top] {
         assert_eq!(bench.add_relation(call), Err(UsedUp));
     }

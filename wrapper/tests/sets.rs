@@ -76,10 +76,7 @@ fn memory_that_is_no_store_is_refused() {
 
 #[test]
 fn a_store_without_constants_builds_them_from_level_0_up() {
-    let mut bench = Bench::raw(6, 4);
-    bench.relations.fill(0);
-    bench.relations[FIELDS] = 2;
-    bench.sets.fill(0);
+    let mut bench = Bench::bare(2, 6, 4);
     assert_eq!(bench.add_set(set_zero), Ok(4));
     assert_eq!(bench.sets, [2, 0, 0, 2, 2, 0, 0, 0, 0]);
 }

@@ -18,9 +18,9 @@ memory rel M = M .relations
 
 -- THE HEAD of a memory, before its nodes; `src/head.rt` has its lengths and places for the code.
 -- 01: "Relation memory: k, the node count n, then four numbers a node"; "Set memory: the node count m, then two numbers a node"
-abbrev pub heads : Kind → ℕ → ℕ → List ℕ
-heads set k n = n ∷ []
-heads rel k n = k ∷ n ∷ []
+abbrev pub head-of : Kind → ℕ → ℕ → List ℕ
+head-of set k n = n ∷ []
+head-of rel k n = k ∷ n ∷ []
 
 -- how many numbers it has
 abbrev pub head : Kind → ℕ
@@ -69,6 +69,6 @@ write K h N m = h ++ (flat N ++ (replicate (arity K * (places-in K m - length N)
 -- the memories M with the plain store S of k fields written into them
 unfoldable pub encode : ℕ → Store → Memories → Memories
 encode k S M = record {
-  relations = write rel (heads rel k (length (S .rels))) (S .rels) (M .relations);
-  sets = write set (heads set k (length (S .sets))) (S .sets) (M .sets);
+  relations = write rel (head-of rel k (length (S .rels))) (S .rels) (M .relations);
+  sets = write set (head-of set k (length (S .sets))) (S .sets) (M .sets);
 }

@@ -11,7 +11,7 @@ use Rattle.nodes.specs.WellFormed.{WellFormed}
 use Rattle.nodes.proofs.Canonical.{formed-sized}
 use Rattle.memory.specs.Rows.{row, rows}
 use Rattle.memory.proofs.Rows.{rows-length, rows-at}
-use Rattle.judging.specs.Memory.{Memories, memory, heads, head, count, fields, places-in, nodes-in, decode, flat, write, encode}
+use Rattle.judging.specs.Memory.{Memories, memory, head-of, head, count, fields, places-in, nodes-in, decode, flat, write, encode}
 use Rattle.judging.specs.Valid.{Room, IsStore}
 use Rattle.outcomes.proofs.Writing.{spread, places-end}
 
@@ -132,25 +132,25 @@ formed-all K F = record { each = formed-sized K F .each }
 -- S of k fields, written into M
 module _ (k : ℕ) (S : Store) (M : Memories) where
   -- the head of each kind's memory
-  abbrev pub headed : Kind → List ℕ
-  headed K = heads K k (length (nodes K S))
+  abbrev pub head-in : Kind → List ℕ
+  head-in K = head-of K k (length (nodes K S))
 
-  pub headed-long : (K : Kind) → length (headed K) ≡ head K
-  headed-long set = refl
-  headed-long rel = refl
+  pub head-long : (K : Kind) → length (head-in K) ≡ head K
+  head-long set = refl
+  head-long rel = refl
 
-  headed-count : (K : Kind) → count K (write K (headed K) (nodes K S) (memory K M)) ≡ length (nodes K S)
+  head-count : (K : Kind) → count K (write K (head-in K) (nodes K S) (memory K M)) ≡ length (nodes K S)
   unfolding write
-  headed-count set = refl
-  headed-count rel = refl
+  head-count set = refl
+  head-count rel = refl
 
-  pub encode-memory : (K : Kind) → memory K (encode k S M) ≡ write K (headed K) (nodes K S) (memory K M)
+  pub encode-memory : (K : Kind) → memory K (encode k S M) ≡ write K (head-in K) (nodes K S) (memory K M)
   unfolding encode
   encode-memory set = refl
   encode-memory rel = refl
 
   pub encode-count : (K : Kind) → count K (memory K (encode k S M)) ≡ length (nodes K S)
-  encode-count K = ap (count K) (encode-memory K) ∙ headed-count K
+  encode-count K = ap (count K) (encode-memory K) ∙ head-count K
 
   pub encode-fields : fields (encode k S M) ≡ k
   unfolding encode write
@@ -168,35 +168,35 @@ decode-encode {S = S} M j F i = record { sets = read set i; rels = read rel i }
   where
     read : (K : Kind) → nodes-in K (memory K (encode j S M)) ≡ nodes K S
     read K =
-        let h = headed j S M K in
+        let h = head-in j S M K in
         (λ i. rows (arity K) (encode-count j S M K i) (drop (head K) (encode-memory j S M K i)))
-        ∙ write-nodes K h (nodes K S) (memory K M) (headed-long j S M K) (formed-all K F)
+        ∙ write-nodes K h (nodes K S) (memory K M) (head-long j S M K) (formed-all K F)
 
 module _ {k : ℕ} {S : Store} {M : Memories} (F : WellFormed k S) (p : Space S M) where
   pub encode-length : (K : Kind) (j : ℕ) → length (memory K (encode j S M)) ≡ length (memory K M)
   encode-length K j = ap length (encode-memory j S M K)
-      ∙ write-length K (headed j S M K) (nodes K S) (memory K M) (headed-long j S M K) (formed-all K F) (p .within K) (p .headed K)
+      ∙ write-length K (head-in j S M K) (nodes K S) (memory K M) (head-long j S M K) (formed-all K F) (p .within K) (p .headed K)
 
   pub encode-places : (K : Kind) (j : ℕ) → places-in K (memory K (encode j S M)) ≡ places-in K (memory K M)
   encode-places K j = ap (places-in K) (encode-memory j S M K)
-      ∙ write-places K (headed j S M K) (nodes K S) (memory K M) (headed-long j S M K) (formed-all K F) (p .within K) (p .headed K)
+      ∙ write-places K (head-in j S M K) (nodes K S) (memory K M) (head-long j S M K) (formed-all K F) (p .within K) (p .headed K)
 
   pub encode-store : k ≤ 32 → IsStore (encode k S M)
   encode-store b = record {
     few = subst (λ j. j ≤ 32) (sym (encode-fields k S M)) b;
-    room = λ K. subst (Room K) (sym (encode-memory k S M K)) (write-room K (headed k S M K) (nodes K S) (memory K M) (headed-long k S M K)
-        (formed-all K F) (p .within K) (p .headed K) (headed-count k S M K));
+    room = λ K. subst (Room K) (sym (encode-memory k S M K)) (write-room K (head-in k S M K) (nodes K S) (memory K M) (head-long k S M K)
+        (formed-all K F) (p .within K) (p .headed K) (head-count k S M K));
     formed = subst (λ j. WellFormed j (decode (encode k S M))) (sym (encode-fields k S M)) (subst (WellFormed k) (sym (decode-encode M k F)) F);
   }
 
-  over-one : (K : Kind) (j : ℕ) (h : List ℕ) (N : Nodes) → write K h N (write K (headed j S M K) (nodes K S) (memory K M)) ≡ write K h N (memory K M)
-  over-one K j h N = write-write K (headed j S M K) (nodes K S) (memory K M) (headed-long j S M K) (formed-all K F)
+  over-one : (K : Kind) (j : ℕ) (h : List ℕ) (N : Nodes) → write K h N (write K (head-in j S M K) (nodes K S) (memory K M)) ≡ write K h N (memory K M)
+  over-one K j h N = write-write K (head-in j S M K) (nodes K S) (memory K M) (head-long j S M K) (formed-all K F)
       (p .within K) (p .headed K) h N
 
   -- the next store written over it
   pub encode-encode : (j i : ℕ) (T : Store) → encode i T (encode j S M) ≡ encode i T M
   unfolding encode
   encode-encode j i T d = record {
-    relations = over-one rel j (headed i T M rel) (T .rels) d;
-    sets = over-one set j (headed i T M set) (T .sets) d;
+    relations = over-one rel j (head-in i T M rel) (T .rels) d;
+    sets = over-one set j (head-in i T M set) (T .sets) d;
   }

@@ -21,23 +21,8 @@ use Rattle.memory.proofs.Rows.{rows-length, places-fit, plain-nodes}
 use Rattle.outcomes.specs.OnMemories.{set-places, rel-places, on-store}
 use Rattle.outcomes.specs.Finishing.{Finished, Fitted, Ends}
 use Rattle.judging.specs.Commit.{Committed}
-use Rattle.judging.specs.Memory.{
-  Memories,
-  memories,
-  memory,
-  heads,
-  head,
-  count-at,
-  fields-at,
-  count,
-  fields,
-  body,
-  places-in,
-  nodes-in,
-  decode,
-  write,
-  encode,
-}
+use Rattle.judging.specs.Memory.{Memories, memories, memory, count, fields, body, places-in, nodes-in, decode, write, encode}
+use Rattle.judging.specs.Memory.{head-of, head, count-at, fields-at}
 use Rattle.outcomes.specs.Outcome.{Verdict, gives, runs, provided, going, handle-of, Told, told, concludes}
 use Rattle.judging.specs.Valid.{Room, IsStore, store?}
 use Rattle.outcomes.specs.declared.Answer.{Answer}
@@ -53,7 +38,7 @@ use Rattle.outcomes.proofs.Writing.{spread, room-free, write-body, writ
 
 -- HEADS. A memory's head with another count
 abbrev pub recount : Kind → List ℕ → ℕ → List ℕ
-recount K m n = heads K (getD m fields-at 0) n
+recount K m n = head-of K (getD m fields-at 0) n
 
 put-head : (K : Kind) (m : List ℕ) (n : ℕ) → head K ≤ length m → put (take (head K) m) (count-at K) n ≡ recount K m n
 put-head set [] n h = absurd (omega arith)
@@ -133,8 +118,8 @@ same-memory K m R = ap (λ h. write K h (nodes-in K m) m) (ap (recount K m) (nod
 pub encode-one : (K : Kind) (M : Memories) (N : Nodes) → IsStore M
     → encode (fields M) (with-nodes K N (decode M)) M ≡ with-memory K (write K (recount K (memory K M) (length N)) N (memory K M)) M
 unfolding encode decode
-encode-one set M N s = ap (λ r. memories r (write set (heads set (fields M) (length N)) N (M .sets))) (same-memory rel (M .relations) (s .room rel))
-encode-one rel M N s = ap (λ t. memories (write rel (heads rel (fields M) (length N)) N (M .relations)) t) (same-memory set (M .sets) (s .room set))
+encode-one set M N s = ap (λ r. memories r (write set (recount set (M .sets) (length N)) N (M .sets))) (same-memory rel (M .relations) (s .room rel))
+encode-one rel M N s = ap (λ t. memories (write rel (recount rel (M .relations) (length N)) N (M .relations)) t) (same-memory set (M .sets) (s .room set))
 
 -- what a verdict comes to on the memories M, `refuse` making answers of refusals
 abbrev pub ended : {A : Type 0} → (Refusal → A) → Memories → Verdict A → Told A Memories

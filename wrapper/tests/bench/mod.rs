@@ -25,6 +25,15 @@ impl Bench {
         bench
     }
 
+    /// A store of k fields that holds no node.
+    pub fn bare(k: u32, relation_places: usize, set_places: usize) -> Bench {
+        let mut bench = Bench::raw(relation_places, set_places);
+        bench.relations.fill(0);
+        bench.relations[FIELDS] = k;
+        bench.sets.fill(0);
+        bench
+    }
+
     /// The same memories, with other working memory.
     pub fn copy(&self) -> Bench {
         Bench { relations: self.relations.clone(), sets: self.sets.clone(), work: vec![7; 9] }
