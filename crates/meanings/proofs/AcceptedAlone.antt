@@ -4,12 +4,12 @@ use mathlib.Core.Path.{_≡_, refl, sym, ap, _∙_, subst}
 use mathlib.Core.List.{List, [], _∷_}
 use mathlib.Core.Bool.{Bool, true, false, _&&_, not}
 use Prim.Native.Nat.{ℕ}
-use lib.Dec.{eqb, leb, T}
+use lib.Dec.{eqb, leb}
 use Rattle.nodes.specs.Images.{new}
 use Rattle.nodes.specs.Places.{fits-places}
 use Rattle.nodes.specs.Programs.{Prog, Ran, run}
 use Rattle.nodes.specs.Store.{Store, pick}
-use Rattle.nodes.proofs.Bools.{by-test}
+use Rattle.nodes.proofs.Bools.{by-test, no-true}
 use Rattle.outcomes.specs.Answers.{refusal}
 use Rattle.outcomes.specs.OnMemories.{set-places, rel-places}
 use Rattle.outcomes.specs.Outcome.{Verdict, gives, runs, provided, going, handle-of, Told, told, retold, concludes}
@@ -37,9 +37,6 @@ use Rattle.meanings.proofs.EveryHistory.{every-history}
 use Rattle.meanings.proofs.KeptTexts.{made-in, builds-kept}
 
 -- ONE CALL, whose outcome t has a limit of places and u has none: accepted, the two are the same; refused, all is as it was
-no-both : {b : Bool} → b ≡ true → b ≡ false → ⊥
-no-both p q = subst T (sym p ∙ q) tt
-
 record Parts {A X : Type 0} (fine : A → Bool) (t u : Told A X) (x : X) : Type 0 where
   yes : fine (t .answer) ≡ true → t ≡ u
   no : fine (t .answer) ≡ false → t .state ≡ x
@@ -54,8 +51,8 @@ module _ {A X : Type 0} (fine : A → Bool) (six : A) (bad : fine six ≡ false)
   parts (gives a) h = record { yes = λ _. refl; no = λ _. refl }
   parts (runs p f) h = let t = told (f (run p S)) (put (run p S .store)) in
       by-test (λ b. Parts fine (pick b t (told six x)) t x) (fits-places m n (run p S .store))
-      (λ _. record { yes = λ _. refl; no = λ e. absurd (no-both (h p f refl (run p S)) e) })
-      (λ _. record { yes = λ e. absurd (no-both e bad); no = λ _. refl })
+      (λ _. record { yes = λ _. refl; no = λ e. absurd (no-true e (h p f refl (run p S))) })
+      (λ _. record { yes = λ e. absurd (no-true bad e); no = λ _. refl })
 
 abbrev fine-answer : Answer → Bool
 fine-answer a = eqb (refusal a) 0
@@ -104,16 +101,16 @@ module _ (m n : ℕ) where
 
   reads-stay : (x : AnyCall) (P : Plain) → reads? x ≡ true → plain-any-step m n x P .state ≡ P
   unfolding reads? plain-any-step plain-step asked
-  reads-stay (call (new-store k)) P e = absurd (no-both e refl)
-  reads-stay (call (set-call c)) P e = absurd (no-both e refl)
+  reads-stay (call (new-store k)) P e = absurd (no-true refl e)
+  reads-stay (call (set-call c)) P e = absurd (no-true refl e)
   reads-stay (call (set-read c)) P e = answers-stay (set-read-declines (P .width) c (P .lists)) (λ l. set-read-answer (P .lists) l c) (P .lists) P _
-  reads-stay (call (relation-call c)) P e = absurd (no-both e refl)
+  reads-stay (call (relation-call c)) P e = absurd (no-true refl e)
   reads-stay (call (relation-read c)) P e = answers-stay (relation-read-declines (P .width) c (P .lists)) (λ l. relation-read-answer (P .lists) l c)
       (P .lists) P _
-  reads-stay (call (image-call c)) P e = absurd (no-both e refl)
-  reads-stay (call (filter-call c)) P e = absurd (no-both e refl)
+  reads-stay (call (image-call c)) P e = absurd (no-true refl e)
+  reads-stay (call (filter-call c)) P e = absurd (no-true refl e)
   reads-stay (call (path-read c)) P e = answers-stay (path-declines (P .width) c (P .lists)) (λ l. path-answer (P .lists) l c) (P .lists) P _
-  reads-stay (policy t) P e = absurd (no-both e refl)
+  reads-stay (policy t) P e = absurd (no-true refl e)
 
   -- CALLS IN TURN: a test that passes only accepted calls and leaves out only calls that leave the lists
   abbrev plain-turns : List Made → Plain → Listed AnyAnswer Plain
@@ -162,10 +159,10 @@ module _ (m n : ℕ) where
     where
       not-false : (b : Bool) → not b ≡ false → b ≡ true
       not-false true e = refl
-      not-false false e = absurd (no-both refl e)
+      not-false false e = absurd (no-true e refl)
 
 adding-accepted : (c : Made) → adding? c ≡ true → accepted? c ≡ true
-adding-accepted c e = by-test (λ a. (a && not (reads? (c .what))) ≡ true → a ≡ true) (accepted? c) (λ _ _. refl) (λ _ z. absurd (no-both z refl)) e
+adding-accepted c e = by-test (λ a. (a && not (reads? (c .what))) ≡ true → a ≡ true) (accepted? c) (λ _ _. refl) (λ _ z. absurd (no-true refl z)) e
 
 -- THE THEOREM
 module _ (H : History) where

@@ -13,6 +13,7 @@ use Rattle.nodes.specs.WellFormed.{Held, WellFormed}
 use Rattle.nodes.specs.Safety.{Within}
 use Rattle.nodes.proofs.Tests.{ident, all-below-T}
 use Rattle.nodes.proofs.Levels.{agrees-once}
+use Rattle.nodes.proofs.Bools.{no-true}
 use Rattle.memory.specs.Working.{Has}
 use Rattle.memory.specs.Noting.{properties}
 use Rattle.memory.specs.declared.Properties.{Properties}
@@ -29,9 +30,6 @@ T-false false f = refl
 
 true-T : {b : Bool} → b ≡ true → T b
 true-T e = rw e tt
-
-no-true : {b : Bool} → b ≡ false → b ≡ true → ⊥
-no-true e f = let z : _≡_ {A = ℕ} 0 1 = cc in omega arith
 
 -- one test of every child
 all-one : (n : ℕ) (f : ℕ → Bool) (b : Bool) → 0 < n → ((d : ℕ) → d < n → f d ≡ b) → all-below n f ≡ b

@@ -1,15 +1,18 @@
 -- Small facts on truth values and bits.
--- by cases on a test
-use mathlib.Core.Path.{_≡_, refl, subst}
+use mathlib.Core.Path.{_≡_, refl, sym, _∙_, subst}
 use mathlib.Core.Logic.{_↔_}
 use mathlib.Core.Bool.{Bool, true, false, _&&_}
 use Prim.Native.Nat.{ℕ, zero, suc, _-_, _<_}
 use native.Mathlib.Omega.{arith}
 use lib.Dec.{eqb, T, eqb→eq, eqb-refl}
 
+-- by cases on a test
 pub by-test : (P : Bool → Type 0) (b : Bool) → (b ≡ true → P true) → (b ≡ false → P false) → P b
 by-test P true t f = t refl
 by-test P false t f = f refl
+
+pub no-true : {b : Bool} → b ≡ false → b ≡ true → ⊥
+no-true e f = subst T (sym f ∙ e) tt
 
 pub and-T : (p q : Bool) → T (p && q) → T p × T q
 and-T true q t = (tt, t)

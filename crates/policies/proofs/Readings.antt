@@ -17,11 +17,11 @@ use Rattle.policies.specs.declared.PolicyAnswer.{PolicyAnswer}
 use Rattle.policies.proofs.BuiltTexts.{short-verdict, policy-refused}
 
 -- the answer a has the number and the values of the reading r
-pub record Tells (r : Reading) (a : PolicyAnswer) : Type 0 where
+pub record Carries (r : Reading) (a : PolicyAnswer) : Type 0 where
   pub refusal : policy-refusal a ≡ reading-refusal r
   pub values : policy-values a ≡ reading-values r
 
-pub refusal-told : (k : ℕ) (t : List ℕ) (r : Reading) → ¬ (reading-refusal r ≡ 0) → (a : PolicyAnswer) × (of-reading k t r ≡ gives a) × Tells r a
+pub refusal-told : (k : ℕ) (t : List ℕ) (r : Reading) → ¬ (reading-refusal r ≡ 0) → (a : PolicyAnswer) × (of-reading k t r ≡ gives a) × Carries r a
 unfolding of-reading
 refusal-told k t Policy n = absurd (n refl)
 refusal-told k t (NotPolicy i) n = (_, refl, record { refusal = refl; values = refl })
@@ -30,8 +30,8 @@ refusal-told k t (NoField i) n = (_, refl, record { refusal = refl; values = ref
 refusal-told k t (NotPredicate i) n = (_, refl, record { refusal = refl; values = refl })
 
 pub reading-told : (t : List ℕ) (M : Memories) → IsStore M → short? t ≡ true → (r : Reading) → reading x-forms (fields M) t ≡ r → ¬ (reading-refusal r ≡ 0)
-    → Tells r (policy-step t M .answer) × (policy-step t M .state ≡ M)
+    → Carries r (policy-step t M .answer) × (policy-step t M .state ≡ M)
 reading-told t M s h r e n =
     let w = refusal-told (fields M) t r n in
     let f = policy-refused t M s (w .0) (short-verdict (fields M) t (decode M) r h e ∙ w .1) in
-    subst (λ (x : Told PolicyAnswer Memories). Tells r (x .answer) × (x .state ≡ M)) f (w .2, refl)
+    subst (λ (x : Told PolicyAnswer Memories). Carries r (x .answer) × (x .state ≡ M)) f (w .2, refl)
