@@ -70,6 +70,6 @@ module _ {C A : Type 0} (Z : Calling C A) (right : (M₀ M : Memories) (P : Plai
             (each-later (answer-of (Z .on-memories)) (left-by (Z .on-memories)) (Z .GoesOn) before later M (subst (λ cs. AllGoOn Z cs M) q r))));
       }
 
--- for the calls of this crate
+-- for the calls of `store`
 pub list-right : (k : ℕ) (M₀ : Memories) (h : ℕ) → step (new-store k) M₀ .answer ≡ Handle h → (cs : List Call) → ListRight store-calls k M₀ cs
 list-right = lists-right store-calls (λ M₀ M P m c. call-right m c)

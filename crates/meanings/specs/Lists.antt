@@ -54,7 +54,7 @@ pub record Refused (a : Answer) : Type 0 where
 abbrev pub NewRefused : Call → Memories → Type 0
 NewRefused c M = (k : ℕ) → c ≡ new-store k → Refused (step c M .answer)
 
--- the calls of this crate
+-- the calls of `store`
 abbrev pub store-calls : Calling Call Answer
 store-calls = record { on-memories = step; on-plain = plain-step; GoesOn = NewRefused }
 
