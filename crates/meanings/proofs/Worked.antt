@@ -41,21 +41,21 @@ use Rattle.meanings.proofs.AllCalls.{any-right}
 use Rattle.meanings.proofs.Lists.{lists-right}
 
 -- THE PLAIN STORE: a table without its `new`, on the lists as `new k` leaves them, with m places for sets and n for relations
-abbrev after-new : List Row → List Row
-after-new [] = []
-after-new (w ∷ t) = t
+abbrev without-new : List Row → List Row
+without-new [] = []
+without-new (w ∷ t) = t
 
 abbrev Plainly : ℕ → ℕ → ℕ → List Row → Type 0
 Plainly k m n t = plain-steps all-calls m n (map (λ w. w .0) t) (begun k) .answers ≡ map (λ w. w .1) t
 
-calls-plain : Plainly 0 0 0 (after-new no-field) × Plainly 1 2 11 (after-new one-field) × Plainly 2 10 36 (after-new two-fields)
+calls-plain : Plainly 0 0 0 (without-new no-field) × Plainly 1 2 11 (without-new one-field) × Plainly 2 10 36 (without-new two-fields)
 unfolding in-turn plain-any-step plain-step asked on-lists concludes provided also of-one of-pair of-path of-four level-of packet
     run get mk-store mk-handle place having agrees constant identity-at-depth complement union intersect xor difference fields test raise assign is-zero
     sequence star flip naive-forward backward ifelse intersects fwd bwd ifwd ibwd diagonal push pull has-image has-path has-path-node new
     op1 node1 op2 node2
 calls-plain = (refl, refl, refl)
 
-texts-plain : Plainly 1 1 3 (after-new faults) × Plainly 1 1 5 (after-new lines)
+texts-plain : Plainly 1 1 3 (without-new faults) × Plainly 1 1 5 (without-new lines)
 unfolding in-turn plain-any-step plain-policy-step on-lists concludes text-verdict of-reading policy-program
     run get mk-store mk-handle place having agrees constant identity-at-depth union fields test new op2 node2
     x-begins? x-whole? reading reading-of rules first number no-field? test? open-after clean-inside? clean? offends? reads runs final moves onward
@@ -109,14 +109,14 @@ new-refused k a b r f M ea eb = ap (λ u. answered (u .answer) ∷ []) (sym (f M
 pub worked : Worked
 unfolding in-turn
 worked = record {
-  handles = begins 1 46 5 (after-new one-field) refl (calls-plain .1);
-  no-fields = begins 0 2 1 (after-new no-field) refl (calls-plain .0);
+  handles = begins 1 46 5 (without-new one-field) refl (calls-plain .1);
+  no-fields = begins 0 2 1 (without-new no-field) refl (calls-plain .0);
   most-fields = begins 32 386 65 [] refl refl;
   too-many-fields = λ a b. new-refused 33 a b OutOfRange (λ M ea eb. new-range 33 M (omega arith));
   suffices = begins 1 14 3 [] refl refl;
   short-relations = new-refused 1 13 3 UsedUp (λ M ea eb. full-relations 1 13 3 M ea eb (omega arith) (omega arith) (omega arith) 2 1 refl refl (omega arith));
   short-sets = new-refused 1 14 2 UsedUp (λ M ea eb. full-sets 1 14 2 M ea eb (omega arith) (omega arith) (omega arith) 0 1 refl refl (omega arith));
-  policies = begins 1 14 3 (after-new faults) refl (texts-plain .0);
-  listed = begins 1 22 3 (after-new lines) refl (texts-plain .1);
-  ordered = begins 2 146 21 (after-new two-fields) refl (calls-plain .2);
+  policies = begins 1 14 3 (without-new faults) refl (texts-plain .0);
+  listed = begins 1 22 3 (without-new lines) refl (texts-plain .1);
+  ordered = begins 2 146 21 (without-new two-fields) refl (calls-plain .2);
 }

@@ -61,17 +61,17 @@ one-keeps = record {
 }
 
 -- a history of one text, on the store as `new` left it
-abbrev begun : Memories
-begun = step (new-store 1) lent .state
+abbrev new-left : Memories
+new-left = step (new-store 1) lent .state
 
-abbrev asked : List ℕ → Made
-asked t = made (policy t) begun []
+abbrev called : List ℕ → Made
+called t = made (policy t) new-left []
 
-lent-to-it : (t : List ℕ) → LentInTurn begun (asked t ∷ [])
+lent-to-it : (t : List ℕ) → LentInTurn new-left (called t ∷ [])
 unfolding LentInTurn
 lent-to-it t = (refl, tt)
 
-renews-not : (t : List ℕ) → NoneRenews (asked t ∷ [])
+renews-not : (t : List ℕ) → NoneRenews (called t ∷ [])
 unfolding NoneRenews
 renews-not t = (λ k a e q. absurd (let z : _≡_ {A = ℕ} 0 1 = cc e in omega arith), tt)
 
@@ -82,30 +82,30 @@ alone t = record {
   is-new = refl;
   top = 4;
   accepted = ap answered accepted;
-  calls = asked t ∷ [];
+  calls = called t ∷ [];
   in-turn = lent-to-it t;
   none-renews = renews-not t;
 }
 
-zero-accepted : asked zero-text .answer ≡ read (Handle 2)
+zero-accepted : called zero-text .answer ≡ read (Handle 2)
 unfolding in-turn run new constant identity-at-depth get place having mk-store mk-handle policy-program zero-keeps
-zero-accepted = every-history (alone zero-text) .refused zero-text [] [] (asked zero-text) refl refl zero-keeps
+zero-accepted = every-history (alone zero-text) .refused zero-text [] [] (called zero-text) refl refl zero-keeps
 
-one-accepted : asked one-text .answer ≡ read (Handle 3)
+one-accepted : called one-text .answer ≡ read (Handle 3)
 unfolding in-turn run new constant identity-at-depth get place having mk-store mk-handle policy-program one-keeps
-one-accepted = every-history (alone one-text) .refused one-text [] [] (asked one-text) refl refl one-keeps
+one-accepted = every-history (alone one-text) .refused one-text [] [] (called one-text) refl refl one-keeps
 
 -- EVERY TEXT REFUSED, or every text on the store as `new` left it
-pub not-all-refused : ¬ ((t : List ℕ) → (r : PolicyRefusal) × (policy-step t begun .answer ≡ Declined r))
-not-all-refused f = let r = f zero-text in let e : policy-step zero-text begun .answer ≡ Handle 2 = cc zero-accepted in not-handle (sym (r .1) ∙ e)
+pub not-all-refused : ¬ ((t : List ℕ) → (r : PolicyRefusal) × (policy-step t new-left .answer ≡ Declined r))
+not-all-refused f = let r = f zero-text in let e : policy-step zero-text new-left .answer ≡ Handle 2 = cc zero-accepted in not-handle (sym (r .1) ∙ e)
 
 -- ONE HANDLE for all texts
 pub not-one-handle : (h : ℕ) → ¬ ((H : History) (t : List ℕ) (g : ℕ) → AcceptedIn (H .calls) t g → g ≡ h)
 not-one-handle h f =
     let a = f (alone zero-text) zero-text 2
-    (record { before = []; it = asked zero-text; later = []; is = refl; text = refl; handle = zero-accepted }) in
+    (record { before = []; it = called zero-text; later = []; is = refl; text = refl; handle = zero-accepted }) in
     let b = f (alone one-text) one-text 3
-    (record { before = []; it = asked one-text; later = []; is = refl; text = refl; handle = one-accepted }) in
+    (record { before = []; it = called one-text; later = []; is = refl; text = refl; handle = one-accepted }) in
     omega arith
 
 -- THE FIRST PRODUCT ONLY: it loses the pairs of the others

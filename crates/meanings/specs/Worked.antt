@@ -28,17 +28,17 @@ use Rattle.meanings.specs.Lists.{steps}
 abbrev pub Row : Type 0
 Row = AnyCall × AnyAnswer
 
-abbrev pub answers : Call → Answer → Row
-answers c a = (call c, answered a)
+abbrev pub row : Call → Answer → Row
+row c a = (call c, answered a)
 
 abbrev pub yields : Call → ℕ → Row
-yields c h = answers c (Handle h)
+yields c h = row c (Handle h)
 
 abbrev pub decides : Call → Bool → Row
-decides c b = answers c (Truth b)
+decides c b = row c (Truth b)
 
 abbrev pub refuses : Call → Refusal → Row
-refuses c r = answers c (Declined r)
+refuses c r = row c (Declined r)
 
 -- a text with its handle, or with its fault and the offset
 abbrev pub text-yields : List ℕ → ℕ → Row
@@ -75,7 +75,7 @@ one-field =
     ∷ yields (relation-call (R.Flip 9)) 10
     -- P9 `star(9)` 11, node (1,0,1,1)
     ∷ yields (relation-call (R.Star 9)) 11
-    ∷ answers (relation-read (RR.Get 11)) (RelationNode 1 0 1 1)
+    ∷ row (relation-read (RR.Get 11)) (RelationNode 1 0 1 1)
     -- P10 `complement(3)` 12
     ∷ yields (relation-call (R.Complement 3)) 12
     -- P11 `star(12)` 4
@@ -155,11 +155,11 @@ two-fields =
     ∷ yields (set-call T.One) 5
     ∷ yields (set-call (T.Mk 6 7)) 20
     -- and those that add nothing
-    ∷ answers (relation-read (RR.Get 37)) (RelationNode 2 4 2 6)
+    ∷ row (relation-read (RR.Get 37)) (RelationNode 2 4 2 6)
     ∷ decides (relation-read (RR.IsZero 37)) false
     ∷ decides (relation-read (RR.Relates 37 0 2)) true
     ∷ decides (relation-read (RR.Relates 37 2 0)) false
-    ∷ answers (set-read (TR.Get 19)) (SetNode 7 3)
+    ∷ row (set-read (TR.Get 19)) (SetNode 7 3)
     ∷ yields (set-read (TR.Complement 18)) 19
     ∷ decides (set-read (TR.IsZero 4)) true
     ∷ decides (set-read (TR.Intersects 14 8)) true
