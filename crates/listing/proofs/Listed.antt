@@ -8,13 +8,13 @@ use lib.Seq.{take-nil, length-take-le}
 use borrow.Author.Tests.{le-leb, lt-leb}
 use Rattle.bytes.specs.Bytes.{indexOf, slice}
 use Rattle.io.specs.Counts.{Counts}
-use Rattle.nodes.specs.Store.{set, rel, arity, pick}
-use Rattle.judging.specs.Memory.{Memories, memories, head}
+use Rattle.model.specs.Store.{set, rel, arity, pick}
+use Rattle.store_check.specs.Memory.{Memories, memories, head}
 use Rattle.policies.specs.Outcome.{policy-step}
 use Rattle.policies.specs.declared.PolicyAnswer.{PolicyAnswer}
-use Rattle.outcomes.specs.OnMemories.{new-step}
-use Rattle.outcomes.specs.Outcome.{Told, told}
-use Rattle.outcomes.specs.declared.Answer.{Answer}
+use Rattle.call_rules.specs.OnMemories.{new-step}
+use Rattle.call_rules.specs.Outcome.{Outcome, outcome}
+use Rattle.call_rules.specs.declared.Answer.{Answer}
 use Rattle.listing.specs.Lines.{lines}
 use Rattle.listing.specs.Listing.{answer-line, first-line, last-line, policy-lines, zeroed, listed, of-lines, width-of, too-long, listing}
 use Rattle.listing.specs.Writing.{AddsFew, PolicyLine, PolicyLines}
@@ -86,14 +86,14 @@ counted r o y x within text is = ((within, sym (length-take-le r o within)), tex
 
 -- a new store in cleared memories
 pub begun : (k : ℕ) (a : Answer) (r s r₀ s₀ r′ s′ : List ℕ) → r ≡ replicate (length r₀) 0 → s ≡ replicate (length s₀) 0
-    → told a (memories r′ s′) ≡ new-step k (memories r s) → memories r′ s′ ≡ new-step k (zeroed (length r₀) (length s₀)) .state
+    → outcome a (memories r′ s′) ≡ new-step k (memories r s) → memories r′ s′ ≡ new-step k (zeroed (length r₀) (length s₀)) .state
 unfolding zeroed
-begun k a r s r₀ s₀ r′ s′ er es e = ap (λ (t : Told Answer Memories). t .state) e ∙ λ i. new-step k (memories (er i) (es i)) .state
+begun k a r s r₀ s₀ r′ s′ er es e = ap (λ (t : Outcome Answer Memories). t .state) e ∙ λ i. new-step k (memories (er i) (es i)) .state
 
 -- a policy's answer and the memories after it
-pub policy-added : {t : List ℕ} {i : ℕ} {M M′ : Memories} {at r : ℕ} {o o′ : List ℕ} {a : PolicyAnswer} → told a M′ ≡ policy-step t M
+pub policy-added : {t : List ℕ} {i : ℕ} {M M′ : Memories} {at r : ℕ} {o o′ : List ℕ} {a : PolicyAnswer} → outcome a M′ ≡ policy-step t M
     → AddsFew 64 at (answer-line i a) o o′ r → PolicyLine t i M M′ at o o′ r
 policy-added {t} {i} {M} {M′} {at} {r} {o} {o′} {a} e f = record {
-  adds = few-as (ap (λ (u : Told PolicyAnswer Memories). answer-line i (u .answer)) e) (omega arith) f;
-  state = ap (λ (u : Told PolicyAnswer Memories). u .state) e;
+  adds = few-as (ap (λ (u : Outcome PolicyAnswer Memories). answer-line i (u .answer)) e) (omega arith) f;
+  state = ap (λ (u : Outcome PolicyAnswer Memories). u .state) e;
 }

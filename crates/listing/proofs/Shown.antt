@@ -2,8 +2,8 @@
 use mathlib.Core.Path.{_≡_, sym, ap, _∙_}
 use mathlib.Core.List.{List, [], _∷_, _++_, append-nil}
 use Prim.Native.Nat.{ℕ}
-use Rattle.outcomes.specs.Answers.{number}
-use Rattle.outcomes.specs.declared.Refusal.{Refusal}
+use Rattle.call_rules.specs.Answers.{refusal-number}
+use Rattle.call_rules.specs.declared.Refusal.{Refusal}
 use Rattle.policies.specs.Answers.{fault-number}
 use Rattle.policies.specs.declared.Fault.{Fault}
 use Rattle.policies.specs.declared.PolicyAnswer.the-variants.{Declined}
@@ -20,6 +20,6 @@ pub at-shown : {r : PolicyRefusal} {f : Fault} {i n : ℕ} → r ≡ At f i → 
 unfolding shown offset
 at-shown {r} {f} {i} {n} e is = ap (λ (m : ℕ). tagged m ++ ((32 ∷ []) ++ decimal i)) is ∙ ap (λ (x : PolicyRefusal). shown (Declined x)) (sym e)
 
-pub store-shown : {r : PolicyRefusal} {s : Refusal} {n : ℕ} → r ≡ Store s → n ≡ number s → tagged n ≡ shown (Declined r)
+pub store-shown : {r : PolicyRefusal} {s : Refusal} {n : ℕ} → r ≡ Store s → n ≡ refusal-number s → tagged n ≡ shown (Declined r)
 unfolding shown offset
-store-shown {r} {s} {n} e is = ap tagged is ∙ (sym (append-nil (tagged (number s))) ∙ ap (λ (x : PolicyRefusal). shown (Declined x)) (sym e))
+store-shown {r} {s} {n} e is = ap tagged is ∙ (sym (append-nil (tagged (refusal-number s))) ∙ ap (λ (x : PolicyRefusal). shown (Declined x)) (sym e))

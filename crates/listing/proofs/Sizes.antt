@@ -7,7 +7,7 @@ use native.Mathlib.Omega.{arith}
 use lib.Dec.{ltb}
 use borrow.Author.Tests.{ltb-true, ltb-false}
 use Rattle.io.specs.Digits.{digits, Fewest}
-use Rattle.nodes.proofs.Bools.{by-test}
+use Rattle.model.proofs.Bools.{by-test}
 use Rattle.listing.specs.Decimal.{size, decimal}
 
 -- a number of q + 2 digits

@@ -8,7 +8,7 @@ use lib.Dec.{eqb}
 use lib.ListN.{length, take, drop}
 use lib.Seq.{take-length, drop-cons, drop-drop}
 use Rattle.bytes.specs.Bytes.{indexOf, indexAfter, slice}
-use Rattle.nodes.proofs.Bools.{by-test}
+use Rattle.model.proofs.Bools.{by-test}
 use Rattle.listing.specs.Lines.{onto, lines}
 
 -- a byte that is no newline, before a text

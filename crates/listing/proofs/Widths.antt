@@ -6,9 +6,9 @@ use Prim.Native.Nat.{ℕ, _+_, _-_, _*_, _≤_}
 use native.Mathlib.Omega.{arith}
 use lib.Dec.{T, leb, eqb, leb→le}
 use lib.ListN.{length, getD}
-use Rattle.nodes.specs.Store.{pick}
-use Rattle.nodes.proofs.Bools.{and-T}
-use Rattle.texts.specs.XForms.{digit?}
+use Rattle.model.specs.Store.{pick}
+use Rattle.model.proofs.Bools.{and-T}
+use Rattle.policy_text.specs.XForms.{digit?}
 use Rattle.listing.specs.Listing.{at-most-32, one-digit, two-digits, width-of}
 use Rattle.listing.specs.declared.fields.Width.{Width}
 use Rattle.listing.specs.declared.fields.Width.the-variants.{Bad}

@@ -4,10 +4,10 @@ use mathlib.Core.List.{List, [], _∷_, _++_}
 use Prim.Native.Nat.{ℕ, _+_, _-_, _*_}
 use lib.Dec.{leb, eqb}
 use lib.ListN.{length, replicate}
-use Rattle.nodes.specs.Store.{set, rel, arity, pick}
-use Rattle.judging.specs.Memory.{Memories, memories, head, count}
-use Rattle.outcomes.specs.OnMemories.{new-step}
-use Rattle.texts.specs.XForms.{digit?}
+use Rattle.model.specs.Store.{set, rel, arity, pick}
+use Rattle.store_check.specs.Memory.{Memories, memories, head, count}
+use Rattle.call_rules.specs.OnMemories.{new-step}
+use Rattle.policy_text.specs.XForms.{digit?}
 use Rattle.policies.specs.Answers.{policy-number, policy-values}
 use Rattle.policies.specs.Outcome.{policy-step}
 use Rattle.policies.specs.declared.PolicyAnswer.{PolicyAnswer}

@@ -3,7 +3,7 @@ use mathlib.Core.Path.{_≡_}
 use mathlib.Core.List.{List, _++_}
 use Prim.Native.Nat.{ℕ, _+_, _*_, _≤_}
 use lib.ListN.{length, take}
-use Rattle.judging.specs.Memory.{Memories}
+use Rattle.store_check.specs.Memory.{Memories}
 use Rattle.policies.specs.Outcome.{policy-step}
 use Rattle.listing.specs.Listing.{answer-line, last-line, policy-lines}
 

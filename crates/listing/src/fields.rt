@@ -20,7 +20,7 @@ fn at_most_32(n: u32) -> Width
 fn one_digit(a: u8) -> Width
     ensures { λ r. ⌜ r ≡ one-digit a ⌝ }
 {
-    if !texts::is_digit(a) {
+    if !policy_text::is_digit(a) {
         return Width::Bad;
     }
     at_most_32((a - 48) as u32)
@@ -32,10 +32,10 @@ fn two_digits(a: u8, b: u8) -> Width
     if a == 48 {
         return Width::Bad;
     }
-    if !texts::is_digit(a) {
+    if !policy_text::is_digit(a) {
         return Width::Bad;
     }
-    if !texts::is_digit(b) {
+    if !policy_text::is_digit(b) {
         return Width::Bad;
     }
     at_most_32(10 * (a - 48) as u32 + (b - 48) as u32)

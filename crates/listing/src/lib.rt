@@ -4,7 +4,7 @@ ghost use lib.ListN.{take};
 ghost use Rattle.io.specs.Counts.{Counts};
 ghost use Rattle.listing.specs.Listing.{listing};
 use crate::fields::Width;
-use judging::head::*;
+use store_check::head::*;
 
 mod fields;
 mod lines;

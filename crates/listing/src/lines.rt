@@ -2,26 +2,26 @@
 ghost use mathlib.Core.Path.{_≡_};
 ghost use Prim.Native.Nat.{_+_, _-_, _*_, _<_, _≤_};
 ghost use lib.ListN.{length, take, drop};
-ghost use Rattle.nodes.specs.Store.{set, rel, arity};
-ghost use Rattle.judging.specs.Memory.{memories, head};
-ghost use Rattle.outcomes.specs.OnMemories.{new-step};
+ghost use Rattle.model.specs.Store.{set, rel, arity};
+ghost use Rattle.store_check.specs.Memory.{memories, head};
+ghost use Rattle.call_rules.specs.OnMemories.{new-step};
 ghost use Rattle.listing.specs.Lines.{lines};
 ghost use Rattle.listing.specs.Listing.{zeroed, listed};
 ghost use Rattle.listing.specs.Writing.{PolicyLine, PolicyLines};
 ghost use Rattle.listing.specs.declared.fields.Width.the-variants.{Is};
-use judging::head::*;
+use store_check::head::*;
 
 // A new store of k fields.
 fn begin(relations: &mut [u32], sets: &mut [u32], work: &mut [u32], k: u32)
     ensures { λ _. ⌜ memories (now (relations .exit)) (now (sets .exit))
         ≡ new-step k (zeroed (length (now (relations .entry))) (length (now (sets .entry)))) .state ⌝ }
 {
-    nodes::clear(relations);
-    nodes::clear(sets);
+    memory::clear(relations);
+    memory::clear(sets);
     new_store::new(relations, sets, work, k);
 }
 
-// Judges policy i, and writes its line.
+// Makes the call of policy i, and writes its line.
 fn policy_line(
     relations: &mut [u32],
     sets: &[u32],

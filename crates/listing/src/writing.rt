@@ -51,7 +51,7 @@ fn put_refusal(out: &mut [u8], at: usize, r: PolicyRefusal) -> usize
             put_number(out, from, b" ", i as u64)
         }
         PolicyRefusal::Store(s) => {
-            let number = outcomes::number_of(s);
+            let number = call_rules::number_of(s);
             put_number(out, at, b" r", number as u64)
         }
     }

@@ -145,8 +145,8 @@ module _ (node : ℕ → List ℕ) (n : ℕ) (x : List ℕ) where
   finds-any good r f = record { low = f .low; hit = f .hit; none = λ g. f .none refl }
 
   module _ (w : List ℕ) (at : ℕ) where
-    abbrev Answers : ℕ → Type 0
-    Answers r = (good : Bool) → at ≡ memo-size (length w) → (good ≡ true → Indexed node w n) → Finds node n x good r
+    abbrev LooksUp : ℕ → Type 0
+    LooksUp r = (good : Bool) → at ≡ memo-size (length w) → (good ≡ true → Indexed node w n) → Finds node n x good r
 
     -- from the head of the bucket, and along a link
     pub trail-start : (b v : ℕ) → b ≡ bucket x → b < 4096 → v ≡ getD w (at + b) 0 → Trail node w at n x v
@@ -166,10 +166,10 @@ module _ (node : ℕ → List ℕ) (n : ℕ) (x : List ℕ) where
 
     module _ (room : at + 8192 ≤ length w) (v : ℕ) where
       -- a value past the nodes, and a link that does not lead down, stand in no right index
-      pub trail-past : n < v → Trail node w at n x v → Answers n
+      pub trail-past : n < v → Trail node w at n x v → LooksUp n
       trail-past l t good e ix = finds-none good (λ g. absurd (let a = t .along e (ix g (omega arith)) in omega (arith, a .low)))
 
-      pub trail-wrong : (next : ℕ) → 0 < v → v ≤ n → next ≡ getD w (at + 4096 + (v - 1)) 0 → v ≤ next → Answers n
+      pub trail-wrong : (next : ℕ) → 0 < v → v ≤ n → next ≡ getD w (at + 4096 + (v - 1)) 0 → v ≤ next → LooksUp n
       trail-wrong next p l en up good e ix =
           finds-none good
           (λ g.
@@ -177,7 +177,7 @@ module _ (node : ℕ → List ℕ) (n : ℕ) (x : List ℕ) where
           (omega
           (arith, last-le node (bucket (node (v - 1))) (v - 1), link-is v next p l en e (ix g (omega arith)))))
 
-      pub trail-end : v ≡ 0 → Trail node w at n x v → Answers n
+      pub trail-end : v ≡ 0 → Trail node w at n x v → LooksUp n
       trail-end z t good e ix = finds-none good (λ g k l. t .along e (ix g (omega arith)) .none k (omega arith) l)
 
 -- node n at the head of its chain
@@ -233,5 +233,5 @@ module _ (node : ℕ → List ℕ) (w : List ℕ) (n at b : ℕ) where
             rw (← ea)
             (drop-set-lt (at + 8192) one (at + b) (n + 1) (omega arith)
             ∙ drop-set-lt (at + 8192) w (at + 4096 + n) (getD w (at + b) 0) (omega arith));
-        wide = entered-length;
+        work-length = entered-length;
       }

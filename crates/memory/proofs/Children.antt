@@ -6,10 +6,10 @@ use Prim.Native.Nat.{ℕ, zero, suc, _+_, _*_, _/_, _%_, _<_, _≤_}
 use native.Mathlib.Omega.{arith}
 use native.Mathlib.Nat.{mul-div-le}
 use lib.ListN.{length, getD}
-use Rattle.nodes.specs.Programs.{all-below}
-use Rattle.nodes.specs.Safety.{Within}
-use Rattle.nodes.specs.Store.{Kind, set, rel, arity, Store, nodes, signed, index, with-sign, get, child}
-use Rattle.nodes.proofs.Signs.{getD-map}
+use Rattle.model.specs.Programs.{all-below}
+use Rattle.model.specs.Safety.{Within}
+use Rattle.model.specs.Store.{Kind, set, rel, arity, Store, nodes, signed, index, with-sign, get, child}
+use Rattle.model.proofs.Signs.{getD-map}
 use Rattle.memory.specs.Rows.{row, places, plain}
 use Rattle.memory.proofs.Rows.{row-within, places-fit, row-at, row-length, plain-length, plain-at}
 

@@ -10,7 +10,7 @@ use Rattle.memory.specs.Finding.{Emptied}
 use Rattle.memory.specs.Working.{memo-size, last-in}
 
 pub no-index : (w : List ℕ) (p : ℕ) → p ≡ memo-size (length w) → length w - p < 8192 → Emptied w w
-no-index w p e h = record { index = λ node f. absurd (let z : ⊥ = omega (arith, e) in z); memo = refl; words = refl; wide = refl }
+no-index w p e h = record { index = λ node f. absurd (let z : ⊥ = omega (arith, e) in z); memo = refl; words = refl; work-length = refl }
 
 -- z is put for the heads, from p on
 module _ (w z : List ℕ) (p : ℕ) (e : p ≡ memo-size (length w)) (h : 8192 ≤ length w - p)
@@ -53,5 +53,5 @@ module _ (w z : List ℕ) (p : ℕ) (e : p ≡ memo-size (length w)) (h : 8192 �
     };
     memo = subst (λ k. take k after ≡ take k w) e (take-put p (p + 4096 - p) w z (omega arith));
     words = subst (λ k. drop (k + 8192) after ≡ drop (k + 8192) w) e (further after ∙ ap (drop 4096) kept-behind ∙ sym (further w));
-    wide = wide-after;
+    work-length = wide-after;
   }

@@ -9,17 +9,17 @@ use lib.ListN.{length, getD, set, take, drop, length-set}
 use lib.Seq.{getD-set-same, getD-set-other, take-set-le, drop-set-lt, drop-set-add}
 use lib.Dec.{ltb}
 use borrow.Author.Tests.{ltb-true, ltb-false}
-use Rattle.nodes.specs.Store.{Store}
-use Rattle.nodes.specs.Programs.{ran, run}
-use Rattle.nodes.specs.Safety.{Settled}
-use Rattle.nodes.proofs.Bools.{by-test}
-use Rattle.nodes.proofs.Extends.{ext-refl}
+use Rattle.model.specs.Store.{Store}
+use Rattle.model.specs.Programs.{ran, run}
+use Rattle.model.specs.Safety.{Settled}
+use Rattle.model.proofs.Bools.{by-test}
+use Rattle.model.proofs.Extends.{ext-refl}
 use Rattle.memory.specs.Rows.{row}
 use Rattle.memory.specs.Memo.{memo-program}
 use Rattle.memory.specs.Working.{memo-size, tag, Entry, Remembers}
-use Rattle.memory.specs.Arena.{Recalls, Keeps}
-use Rattle.memory.specs.declared.Found.the-variants.{Answer, Operands}
-use Rattle.memory.proofs.Fours.{four, wrote}
+use Rattle.memory.specs.Performing.{Recalls, KeepsEntry}
+use Rattle.memory.specs.declared.Lookup.the-variants.{Answer, Operands}
+use Rattle.memory.proofs.RelationNodes.{four, wrote}
 
 -- READING
 -- the entry at place j answers
@@ -91,15 +91,15 @@ apart : (i j : ℕ) → (i ≡ j) ⊎ ((i < j) ⊎ (j < i))
 apart i j = by-test (λ b. (i ≡ j) ⊎ ((i < j) ⊎ (j < i))) (ltb i j) (λ e. inr (inl (ltb-true i j e)))
     (λ e. ⊎-elim (λ q. inl (sym q)) (λ l. inr (inr l)) (eq-or-lt-of-le (ltb-false i j e)))
 
-pub keeps-none : {w : List ℕ} {op l a b h : ℕ} → Keeps w w op l a b h
-keeps-none = record { entries = λ j i. inl refl; rest = refl; wide = refl }
+pub keeps-none : {w : List ℕ} {op l a b h : ℕ} → KeepsEntry w w op l a b h
+keeps-none = record { entries = λ j i. inl refl; rest = refl; work-length = refl }
 
 pub keeps-wrote : (w : List ℕ) (j op l a b h : ℕ) → 4 * j + 3 < memo-size (length w) → memo-size (length w) ≤ length w
-    → Keeps w (wrote w (4 * j) (tag op l) a b h) op l a b h
+    → KeepsEntry w (wrote w (4 * j) (tag op l) a b h) op l a b h
 keeps-wrote w j op l a b h i m = record {
   entries = λ k lt. ⊎-elim
       (λ e. inr (ap (row 4 (wrote w (4 * j) (tag op l) a b h)) e ∙ wrote-here w j (tag op l) a b h (omega arith)))
       (λ s. inl (wrote-row w j (tag op l) a b h k s)) (apart k j);
   rest = wrote-drop w j (tag op l) a b h (memo-size (length w)) i;
-  wide = wrote-length w j (tag op l) a b h;
+  work-length = wrote-length w j (tag op l) a b h;
 }

@@ -11,21 +11,21 @@ use lib.ListN.{List·getD-eq-default, length, getD, take, drop, length-append, l
 use lib.Seq.{getD-set-same, getD-set-other, set-out, take-set-le, paste}
 use lib.Dec.{ltb, leb, T, lt→ltb}
 use borrow.Author.Tests.{le-leb, lt-leb}
-use Rattle.nodes.specs.Operations.{fields}
-use Rattle.nodes.specs.Packets.{none}
-use Rattle.nodes.specs.Programs.{same, mk, run}
-use Rattle.nodes.specs.Safety.{Kids, Safe}
-use Rattle.nodes.specs.Store.{Kind, set, rel, arity, Nodes, Store, nodes, with-nodes, index, handle-of, with-sign, get, place, having, sign, stored}
-use Rattle.nodes.specs.Store.{mk-store, mk-handle}
-use Rattle.nodes.specs.WellFormed.{Distinct, WellFormed, Extends}
-use Rattle.nodes.proofs.Extends.{ext-held}
-use Rattle.nodes.proofs.Levels.{held-once, held-at}
-use Rattle.nodes.proofs.Mk.{Had, had, mk-ext, handle-big, mk-formed}
-use Rattle.nodes.proofs.Settle.{agrees-kept, settled-later}
-use Rattle.nodes.proofs.Signs.{index-handle, with-sign-zero}
-use Rattle.nodes.proofs.Tests.{empty}
-use Rattle.memory.specs.declared.Arena.{Arena}
-use Rattle.memory.specs.Arena.{arena, Ready, ends, Runs, Joins}
+use Rattle.model.specs.Operations.{fields}
+use Rattle.model.specs.Packets.{none}
+use Rattle.model.specs.Programs.{same, mk, run}
+use Rattle.model.specs.Safety.{Kids, Safe}
+use Rattle.model.specs.Store.{Kind, set, rel, arity, Nodes, Store, nodes, with-nodes, index, handle-of, with-sign, get, place, having, sign, stored}
+use Rattle.model.specs.Store.{mk-store, mk-handle}
+use Rattle.model.specs.WellFormed.{Distinct, WellFormed, Extends}
+use Rattle.model.proofs.Extends.{ext-held}
+use Rattle.model.proofs.Levels.{held-once, held-at}
+use Rattle.model.proofs.Mk.{Had, had, mk-ext, handle-big, mk-formed}
+use Rattle.model.proofs.Settle.{agrees-kept, settled-later}
+use Rattle.model.proofs.Signs.{index-handle, with-sign-zero}
+use Rattle.model.proofs.Tests.{empty}
+use Rattle.memory.specs.declared.RunState.{RunState}
+use Rattle.memory.specs.Performing.{run-state, Ready, ends, Runs, Joins}
 use Rattle.memory.specs.Finding.{Search, Entered}
 use Rattle.memory.specs.Noting.{Noted}
 use Rattle.memory.specs.Rows.{row, rows, places, plain}
@@ -147,8 +147,8 @@ with-same : (K : Kind) (S : Store) → with-nodes K (nodes K S) S ≡ S
 with-same set S = refl
 with-same rel S = refl
 
-module _ {K : Kind} {B : Store} {s : Arena} {m w : List ℕ} (y x : List ℕ) (ok : s .ok ≡ true) (R : Ready K (mk K y) B s m w) (e : x ≡ stored K y) where
-  pub join-found : (i h : ℕ) → i < s .n → row (arity K) m i ≡ x → h ≡ handle-of K (sign y) i → Runs K (mk K y) B s m m w w (arena true (s .n) h)
+module _ {K : Kind} {B : Store} {s : RunState} {m w : List ℕ} (y x : List ℕ) (ok : s .ok ≡ true) (R : Ready K (mk K y) B s m w) (e : x ≡ stored K y) where
+  pub join-found : (i h : ℕ) → i < s .n → row (arity K) m i ≡ x → h ≡ handle-of K (sign y) i → Runs K (mk K y) B s m m w w (run-state true (s .n) h)
   unfolding run ends mk-store mk-handle
   join-found i h l q v =
       let S = plain K B m (s .n) in
@@ -160,7 +160,7 @@ module _ {K : Kind} {B : Store} {s : Arena} {m w : List ℕ} (y x : List ℕ) (o
             ∙ le-leb _ (places (arity K) m) (omega (arith, plain-length K B m (s .n), R .room)));
         done = λ _. record { store = sym same; value = v ∙ ap (handle-of K (sign y)) (sym (t .1)); work = F .work };
         writes = writes-same (R .room);
-        wide = refl;
+        work-length = refl;
       }
 
   module _ (none : (i : ℕ) → i < s .n → row (arity K) m i ≡ x → ⊥) where
@@ -184,12 +184,12 @@ module _ {K : Kind} {B : Store} {s : Arena} {m w : List ℕ} (y x : List ℕ) (o
         counted set N S = refl
         counted rel N S = refl
 
-    pub join-full : (h : ℕ) → places (arity K) m ≤ s .n → Runs K (mk K y) B s m m w w (arena false (s .n) h)
+    pub join-full : (h : ℕ) → places (arity K) m ≤ s .n → Runs K (mk K y) B s m m w w (run-state false (s .n) h)
     join-full h l = record {
       okay = sym ((λ j. ok j && leb (ends-more j) (places (arity K) m)) ∙ lt-leb _ (places (arity K) m) (omega arith));
       done = λ t. absurd (false≢true t);
       writes = writes-same (R .room);
-      wide = refl;
+      work-length = refl;
     }
 
     module _ (m′ w₁ w₂ : List ℕ) (sized : length x ≡ arity K) (l : s .n < places (arity K) m) (p : m′ ≡ paste m (arity K * s .n) x (arity K))
@@ -247,7 +247,7 @@ module _ {K : Kind} {B : Store} {s : Arena} {m w : List ℕ} (y x : List ℕ) (o
 
       -- each word but the new one is as it was
       word-entered : (J : Kind) (i : ℕ) → getD w₂ (words-at J (length w₂) + i) 0 ≡ getD w₁ (words-at J (length w₁) + i) 0
-      word-entered = words-same w₁ w₂ (E .wide) (E .words)
+      word-entered = words-same w₁ w₂ (E .work-length) (E .words)
 
       word-other : (J : Kind) (i : ℕ) → ¬ ((J ≡ K) × (i ≡ s .n)) → i < 4096 → getD w₂ (words-at J (length w₂) + i) 0 ≡ getD w (words-at J (length w) + i) 0
       word-other J i o a = word-entered J i ∙ ap (λ k. getD w₁ (words-at J k + i) 0) long
@@ -292,7 +292,7 @@ module _ {K : Kind} {B : Store} {s : Arena} {m w : List ℕ} (y x : List ℕ) (o
 
       memo-after : Remembers w₂ (plain K B m′ (s .n + 1))
       memo-after j f =
-          let g : 4 * j + 3 < memo-size (length w) = subst (λ k. 4 * j + 3 < memo-size k) (E .wide ∙ long) f in
+          let g : 4 * j + 3 < memo-size (length w) = subst (λ k. 4 * j + 3 < memo-size k) (E .work-length ∙ long) f in
           let t : take (memo-size (length w)) w₂ ≡ take (memo-size (length w)) w = subst (λ k. take (memo-size k) w₂ ≡ take (memo-size k) w₁) long (E .memo)
           ∙ noted-memo K x (s .n) w w₁ N in
           entry-later (row 4 w₂ j) put-extends (subst (λ z. Entry z (plain K B m (s .n))) (sym (entry-same w w₂ t j g))
@@ -314,7 +314,7 @@ module _ {K : Kind} {B : Store} {s : Arena} {m w : List ℕ} (y x : List ℕ) (o
         unset = λ J i a b. word-other J i (past J i a) b ∙ F .unset J i (omega (arith, ext-longer J put-extends)) b;
       }
 
-      pub join-new : (h : ℕ) → h ≡ handle-of K (sign y) (s .n) → Runs K (mk K y) B s m m′ w w₂ (arena true (s .n + 1) h)
+      pub join-new : (h : ℕ) → h ≡ handle-of K (sign y) (s .n) → Runs K (mk K y) B s m m′ w w₂ (run-state true (s .n + 1) h)
       unfolding run mk-handle
       join-new h v = record {
         okay = sym ((λ j. ok j && leb (ends-more j) (places (arity K) m)) ∙ le-leb _ (places (arity K) m) (omega arith));
@@ -326,27 +326,27 @@ module _ {K : Kind} {B : Store} {s : Arena} {m w : List ℕ} (y x : List ℕ) (o
           most = omega arith;
           long = ap length p ∙ paste-long (arity K) (s .n) m x sized fits;
         };
-        wide = E .wide ∙ long;
+        work-length = E .work-length ∙ long;
       }
 
 -- THE RETURNS of `join`, over every store: after a failure, with a count that has no places, and the three above
-module _ {K : Kind} {s : Arena} {m w : List ℕ} (y x : List ℕ) where
-  pub joins-stuck : s .ok ≡ false → Joins K y s m m w w (arena false (s .n) 0)
+module _ {K : Kind} {s : RunState} {m w : List ℕ} (y x : List ℕ) where
+  pub joins-stuck : s .ok ≡ false → Joins K y s m m w w (run-state false (s .n) 0)
   joins-stuck f = record {
     joins = λ B h R v. record {
       okay = sym (ap (λ b. b && leb (ends K (mk K y) (plain K B m (s .n))) (places (arity K) m)) f);
       done = λ t. absurd
           (false≢true t);
       writes = writes-same (R .room);
-      wide = refl;
+      work-length = refl;
     };
   }
 
-  pub joins-never : length x ≡ arity K → places (length x) m < s .n → Joins K y s m m w w (arena false (s .n) 0)
+  pub joins-never : length x ≡ arity K → places (length x) m < s .n → Joins K y s m m w w (run-state false (s .n) 0)
   joins-never z l = record { joins = λ B h R v. absurd (omega (arith, R .room, subst (λ c. places c m < s .n) z l)) }
 
   module _ (ok : s .ok ≡ true) (z : length x ≡ arity K) (e : x ≡ stored K y) (r : ℕ) (F : Search x m w (s .n) r) where
-    pub joins-found : r < s .n → Joins K y s m m w w (arena true (s .n) r)
+    pub joins-found : r < s .n → Joins K y s m m w w (run-state true (s .n) r)
     joins-found l = record {
       joins = λ B h R v. join-found y x ok R e r h l (subst (λ c. row c m r ≡ x) z (F false (λ q. absurd (false≢true q)) .hit l)) v;
     }
@@ -356,12 +356,12 @@ module _ {K : Kind} {s : Arena} {m w : List ℕ} (y x : List ℕ) where
         let f = F true (λ _. subst (λ c. Indexed (row c m) w (s .n)) (sym z) (R .live ok .work .index)) in
         f .none refl (omega (arith, f .low)) i l (subst (λ c. row c m i ≡ x) (sym z) q)
 
-    pub joins-full : ¬ (r < s .n) → places (length x) m ≤ s .n → Joins K y s m m w w (arena false (s .n) 0)
+    pub joins-full : ¬ (r < s .n) → places (length x) m ≤ s .n → Joins K y s m m w w (run-state false (s .n) 0)
     joins-full o l = record { joins = λ B h R v. join-full y x ok R e (no-node R o) h (subst (λ c. places c m ≤ s .n) z l) }
 
     pub joins-new : (m′ w₁ w₂ : List ℕ) → ¬ (r < s .n) → s .n < places (length x) m → m′ ≡ paste m (length x * s .n) x (length x)
         → ((K : Kind) → length x ≡ arity K → Noted K x (s .n) w w₁) → Entered (row (length x) m′) (s .n) w₁ w₂
-        → Joins K y s m m′ w w₂ (arena true (s .n + 1) (s .n))
+        → Joins K y s m m′ w w₂ (run-state true (s .n + 1) (s .n))
     joins-new m′ w₁ w₂ o l p N E = record {
       joins = λ B h R v. join-new y x ok R e (no-node R o) m′ w₁ w₂ z (subst (λ c. s .n < places c m) z l) (subst (λ c. m′ ≡ paste m (c * s .n) x c) z p)
           (N K z)

@@ -1,5 +1,5 @@
 pub mod Rows
-pub mod Fours
+pub mod RelationNodes
 pub mod Parts
 pub mod Chains
 pub mod Emptying
@@ -8,7 +8,7 @@ pub mod Known
 pub mod Children
 pub mod Walks
 pub mod Steps
-pub mod Beside
+pub mod OtherNodes
 pub mod Remembering
 pub mod Joining
 pub mod Looking

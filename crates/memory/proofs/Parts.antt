@@ -5,7 +5,7 @@ use Prim.Native.Nat.{ℕ, _+_, _*_, _<_}
 use native.Mathlib.Omega.{arith}
 use lib.ListN.{length, getD, take, drop}
 use lib.Seq.{getD-drop, take-take}
-use Rattle.nodes.specs.Store.{Kind, set, rel}
+use Rattle.model.specs.Store.{Kind, set, rel}
 use Rattle.memory.specs.Rows.{row}
 use Rattle.memory.specs.Working.{memo-size, words-at}
 use Rattle.memory.proofs.Rows.{row-agree}

@@ -8,15 +8,15 @@ use Prim.Native.Nat.{ℕ, _+_, _*_, _/_, _%_, _<_, _≤_}
 use native.Mathlib.Omega.{arith}
 use native.Mathlib.Nat.{add-assoc}
 use lib.ListN.{length, getD, drop}
-use Rattle.nodes.specs.Operations.{fields}
-use Rattle.nodes.specs.Programs.{Prog, ret, Ran, run}
-use Rattle.nodes.specs.Safety.{Safe, Settled}
-use Rattle.nodes.specs.Store.{Kind, set, rel, arity, Store, index, handle-of}
-use Rattle.nodes.proofs.Settle.{settled}
-use Rattle.memory.specs.declared.Arena.{Arena}
-use Rattle.memory.specs.declared.Found.{Found}
-use Rattle.memory.specs.declared.Found.the-variants.{Answer, Operands}
-use Rattle.memory.specs.Arena.{Ready, Condition, PerformsOn, Left, StandsOn, answered, AnswersOn, Recalls, Keeps, Remembered}
+use Rattle.model.specs.Operations.{fields}
+use Rattle.model.specs.Programs.{Prog, ret, Ran, run}
+use Rattle.model.specs.Safety.{Safe, Settled}
+use Rattle.model.specs.Store.{Kind, set, rel, arity, Store, index, handle-of}
+use Rattle.model.proofs.Settle.{settled}
+use Rattle.memory.specs.declared.RunState.{RunState}
+use Rattle.memory.specs.declared.Lookup.{Lookup}
+use Rattle.memory.specs.declared.Lookup.the-variants.{Answer, Operands}
+use Rattle.memory.specs.Performing.{Ready, Condition, PerformsOn, ReducesTo, ReducesOn, looked-up, LooksUpOn, Recalls, KeepsEntry, Remembered}
 use Rattle.memory.specs.Memo.{memo-program}
 use Rattle.memory.specs.Rows.{row, places, plain}
 use Rattle.memory.specs.Working.{memo-size, links-at, words-at, Indexed, Known, tag, Entry, Remembers, Right}
@@ -51,15 +51,15 @@ entry-new op l a b h x {S} i e s = subst (λ y. 0 < getD y 0 0
     → Settled (memo-program (getD y 0 0 / 256) (getD y 0 0 % 256) (getD y 1 0) (getD y 2 0)) S (getD y 3 0)) (sym e)
     (λ z. let p : (256 * op + l) / 256 ≡ op = omega arith in let q : (256 * op + l) % 256 ≡ l = omega arith in rw (p, q) s)
 
-pub memo-kept : {op l a b h : ℕ} {w w′ : List ℕ} {S : Store} → l < 256 → Keeps w w′ op l a b h → Settled (memo-program op l a b) S h → Remembers w S
+pub memo-kept : {op l a b h : ℕ} {w w′ : List ℕ} {S : Store} → l < 256 → KeepsEntry w w′ op l a b h → Settled (memo-program op l a b) S h → Remembers w S
     → Remembers w′ S
-memo-kept {op} {l} {a} {b} {h} {w} {w′} {S} i k s m j f = elim (k .entries j (subst (λ n. 4 * j + 3 < memo-size n) (k .wide) f)) [
-  | inl e ↦ subst (λ x. Entry x S) (sym e) (m j (subst (λ n. 4 * j + 3 < memo-size n) (k .wide) f))
+memo-kept {op} {l} {a} {b} {h} {w} {w′} {S} i k s m j f = elim (k .entries j (subst (λ n. 4 * j + 3 < memo-size n) (k .work-length) f)) [
+  | inl e ↦ subst (λ x. Entry x S) (sym e) (m j (subst (λ n. 4 * j + 3 < memo-size n) (k .work-length) f))
   | inr e ↦ entry-new op l a b h (row 4 w′ j) i e s
 ]
 
 -- a call that runs an operation of the memo's table may keep its answer there
-pub performs-remember : {Q : Condition} {K : Kind} {p : Prog} {s r : Arena} {m m′ w w₁ w₂ : List ℕ} (op l a b : ℕ) → p ≡ memo-program op l a b → l < 256
+pub performs-remember : {Q : Condition} {K : Kind} {p : Prog} {s r : RunState} {m m′ w w₁ w₂ : List ℕ} (op l a b : ℕ) → p ≡ memo-program op l a b → l < 256
     → PerformsOn Q K p s m m′ w w₁ r
     → Remembered r op l a b w₁ w₂ → PerformsOn Q K p s m m′ w w₂ r
 performs-remember {Q} {K} {p} {s} {r} {m} {m′} {w} {w₁} {w₂} op l a b e i d k = record {
@@ -72,14 +72,14 @@ performs-remember {Q} {K} {p} {s} {r} {m} {m′} {w} {w₁} {w₂} op l a b e i 
         fields = f .work .fields;
         formed = f .work .formed;
         memo = memo-kept i g (answer B q R t) (f .work .memo);
-        index = index-behind w₁ w₂ (g .wide) (g .rest) (f .work .index);
-        words = λ J i x y. subst (λ v. Known J (plain K B m′ (r .n)) (handle-of J 0 i) v) (sym (word-behind w₁ w₂ (g .wide) (g .rest) J i))
+        index = index-behind w₁ w₂ (g .work-length) (g .rest) (f .work .index);
+        words = λ J i x y. subst (λ v. Known J (plain K B m′ (r .n)) (handle-of J 0 i) v) (sym (word-behind w₁ w₂ (g .work-length) (g .rest) J i))
             (f .work .words J i x y);
-        unset = λ J i x y. word-behind w₁ w₂ (g .wide) (g .rest) J i ∙ f .work .unset J i x y;
+        unset = λ J i x y. word-behind w₁ w₂ (g .work-length) (g .rest) J i ∙ f .work .unset J i x y;
       };
     };
     writes = c .writes;
-    wide = k .wide ∙ c .wide;
+    work-length = k .work-length ∙ c .work-length;
   };
 }
   where
@@ -91,14 +91,14 @@ performs-remember {Q} {K} {p} {s} {r} {m} {m′} {w} {w₁} {w₂} op l a b e i 
         (subst (λ (Q : Ran). Settled p (Q .store) (Q .value)) (sym (done-ran c t)) (settled p S (R .live (was-ok c t) .safe)))
 
 -- what is left is done and kept in the memo
-pub called-kept : {Q : Condition} {K : Kind} {p n : Prog} {s r q : Arena} {m m′ w w₁ w₂ : List ℕ} (op l a b : ℕ) → s .ok ≡ true → l < 256
-    → n ≡ memo-program op l a b → StandsOn Q K p n m w → PerformsOn Q K n s m m′ w w₁ r → (q ≡ r) × Remembered r op l a b w₁ w₂ → PerformsOn Q K p s m m′ w w₂ q
+pub called-kept : {Q : Condition} {K : Kind} {p n : Prog} {s r q : RunState} {m m′ w w₁ w₂ : List ℕ} (op l a b : ℕ) → s .ok ≡ true → l < 256
+    → n ≡ memo-program op l a b → ReducesOn Q K p n m w → PerformsOn Q K n s m m′ w w₁ r → (q ≡ r) × Remembered r op l a b w₁ w₂ → PerformsOn Q K p s m m′ w w₂ q
 called-kept {Q} {K} {p} {s = s} {m = m} {m′ = m′} {w = w} {w₂ = w₂} op l a b ok i e u d k =
     subst (λ z. PerformsOn Q K p s m m′ w w₂ z) (sym (k .0)) (called ok u (performs-remember op l a b e i d (k .1)))
 
 -- the memo knows the answer of what is left
-pub recalled : {Q : Condition} {K : Kind} {p q : Prog} {m w : List ℕ} {h : ℕ} {r : Found} (op l a b : ℕ) → q ≡ memo-program op l a b → StandsOn Q K p q m w
-    → Recalls w op l a b r → r ≡ Answer h → StandsOn Q K p (ret h) m w
+pub recalled : {Q : Condition} {K : Kind} {p q : Prog} {m w : List ℕ} {h : ℕ} {r : Lookup} (op l a b : ℕ) → q ≡ memo-program op l a b → ReducesOn Q K p q m w
+    → Recalls w op l a b r → r ≡ Answer h → ReducesOn Q K p (ret h) m w
 unfolding run Safe
 recalled {K = K} {m = m} {h = h} op l a b e u k f = turn u (λ B c n i x R. record {
   runs = ap (λ z. run z (plain K B m n)) e ∙ k .recalls (plain K B m n) h (R .memo) f;
@@ -106,13 +106,13 @@ recalled {K = K} {m = m} {h = h} op l a b e u k f = turn u (λ B c n i x R. reco
 })
 
 -- shortcuts that leave a node ask the memo
-pub answer-recalled : {Q : Condition} {K : Kind} {p : Prog} {node : ℕ → ℕ → Prog} {m w : List ℕ} {r : Found} (op l a b : ℕ) → node a b ≡ memo-program op l a b
-    → StandsOn Q K p (node a b) m w → Recalls w op l a b r → AnswersOn Q K p node m w r
+pub answer-recalled : {Q : Condition} {K : Kind} {p : Prog} {node : ℕ → ℕ → Prog} {m w : List ℕ} {r : Lookup} (op l a b : ℕ) → node a b ≡ memo-program op l a b
+    → ReducesOn Q K p (node a b) m w → Recalls w op l a b r → LooksUpOn Q K p node m w r
 unfolding run
 answer-recalled {Q} {K} {p} {node} {m} {w} {r} op l a b e u k = record { answers = λ B c n i s R. go B c n i s R r refl }
   where
-    go : (B : Store) → Q B → (n : ℕ) → n ≤ places (arity K) m → Safe p (plain K B m n) → Right K B w m n → (z : Found) → r ≡ z
-        → answered p node (plain K B m n) z
+    go : (B : Store) → Q B → (n : ℕ) → n ≤ places (arity K) m → Safe p (plain K B m n) → Right K B w m n → (z : Lookup) → r ≡ z
+        → looked-up p node (plain K B m n) z
     go B c n i s R (Answer h) f = recalled op l a b e u k f .left B c n i s R .runs
     go B c n i s R (Operands x y) f = let q = k .else x y f in
-        subst (λ x. Left p (node x y) (plain K B m n)) (sym (q .0)) (subst (λ y. Left p (node a y) (plain K B m n)) (sym (q .1)) (u .left B c n i s R))
+        subst (λ x. ReducesTo p (node x y) (plain K B m n)) (sym (q .0)) (subst (λ y. ReducesTo p (node a y) (plain K B m n)) (sym (q .1)) (u .left B c n i s R))

@@ -7,7 +7,7 @@ use native.Mathlib.Numerals.{add-one}
 use native.Mathlib.Omega.{arith}
 use lib.ListN.{length, getD, take, drop, length-drop}
 use lib.Seq.{take-nil, take-take, take-at, drop-at, take-all, length-take-le, getD-take, getD-drop, paste, length-paste, take-paste, drop-paste}
-use Rattle.nodes.specs.Store.{Kind, set, rel, arity, Nodes, Store, nodes}
+use Rattle.model.specs.Store.{Kind, set, rel, arity, Nodes, Store, nodes}
 use Rattle.memory.specs.Rows.{row, nodes-from, rows, places, plain}
 
 -- NUMBERS: a node's are within those of n nodes, and nodes for which there are places are within the slice

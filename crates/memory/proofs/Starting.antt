@@ -4,8 +4,8 @@ use mathlib.Core.List.{List}
 use Prim.Native.Nat.{ℕ, zero, suc, _+_, _*_, _<_, _≤_}
 use native.Mathlib.Omega.{arith}
 use lib.ListN.{length, getD, take, drop, replicate}
-use Rattle.nodes.specs.Store.{Kind, arity, Store, nodes, handle-of}
-use Rattle.nodes.specs.WellFormed.{WellFormed}
+use Rattle.model.specs.Store.{Kind, arity, Store, nodes, handle-of}
+use Rattle.model.specs.WellFormed.{WellFormed}
 use Rattle.memory.specs.Rows.{row, plain}
 use Rattle.memory.specs.Finding.{Emptied}
 use Rattle.memory.specs.Working.{memo-size, words-at, last-in, Indexed, Known, Entry, Right}
@@ -17,10 +17,10 @@ use Rattle.memory.proofs.Rows.{row-at}
 pub record IndexApart (w w′ : List ℕ) : Type 0 where
   pub memo : take (memo-size (length w)) w′ ≡ take (memo-size (length w)) w
   pub words : drop (memo-size (length w) + 8192) w′ ≡ drop (memo-size (length w) + 8192) w
-  pub wide : length w′ ≡ length w
+  pub work-length : length w′ ≡ length w
 
 pub emptied-apart : {w w′ : List ℕ} → Emptied w w′ → IndexApart w w′
-emptied-apart E = record { memo = E .memo; words = E .words; wide = E .wide }
+emptied-apart E = record { memo = E .memo; words = E .words; work-length = E .work-length }
 
 -- a store that is the same with other nodes taken for its own, which the index is then of
 pub right-indexed : {J K : Kind} {B C : Store} {w w′ m m′ : List ℕ} {n n′ : ℕ} → plain J C m′ n′ ≡ plain K B m n
@@ -29,14 +29,14 @@ right-indexed {J} {K} {B} {C} {w} {w′} {m} {m′} {n} {n′} e R X E = record 
   fields = R .fields;
   formed = subst (WellFormed (R .fields)) (sym e) (R .formed);
   memo = λ j f.
-      let g : 4 * j + 3 < memo-size (length w) = subst (λ k. 4 * j + 3 < memo-size k) (E .wide) f in
+      let g : 4 * j + 3 < memo-size (length w) = subst (λ k. 4 * j + 3 < memo-size k) (E .work-length) f in
       subst (λ S. Entry (row 4 w′ j) S) (sym e) (subst (λ x. Entry x (plain K B m n)) (sym (entry-same w w′ (E .memo) j g)) (R .memo j g));
   index = X;
   words = λ I i a b.
-      subst (λ v. Known I (plain J C m′ n′) (handle-of I 0 i) v) (sym (words-same w w′ (E .wide) (E .words) I i))
+      subst (λ v. Known I (plain J C m′ n′) (handle-of I 0 i) v) (sym (words-same w w′ (E .work-length) (E .words) I i))
       (subst (λ S. Known I S (handle-of I 0 i) (getD w (words-at I (length w) + i) 0)) (sym e)
       (R .words I i a (subst (λ S. i < length (nodes I S)) e b)));
-  unset = λ I i a b. words-same w w′ (E .wide) (E .words) I i ∙ R .unset I i (subst (λ S. length (nodes I S) ≤ i) e a) b;
+  unset = λ I i a b. words-same w w′ (E .work-length) (E .words) I i ∙ R .unset I i (subst (λ S. length (nodes I S) ≤ i) e a) b;
 }
 
 -- with none of the other nodes yet

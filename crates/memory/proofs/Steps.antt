@@ -9,18 +9,18 @@ use lib.ListN.{length, take, drop, length-append}
 use lib.Seq.{drop-drop, take-take}
 use lib.Dec.{eqb, ltb, leb}
 use borrow.Author.Tests.{le-leb, lt-leb, leb-false}
-use Rattle.nodes.specs.Programs.{isEmpty, isUniversal, isIdentity, Test, same, less, has, holds, Prog, panic, ret, ask, look, bind, Ran, ran, run}
-use Rattle.nodes.specs.Safety.{Sure, Safe}
-use Rattle.nodes.specs.Store.{Kind, rel, arity, Store, nodes}
-use Rattle.nodes.specs.WellFormed.{Extends}
-use Rattle.nodes.proofs.Bools.{by-test}
-use Rattle.nodes.proofs.Settle.{run-ext}
-use Rattle.memory.specs.declared.Arena.{Arena}
+use Rattle.model.specs.Programs.{isEmpty, isUniversal, isIdentity, Test, same, less, has, holds, Prog, panic, ret, ask, look, bind, Ran, ran, run}
+use Rattle.model.specs.Safety.{Sure, Safe}
+use Rattle.model.specs.Store.{Kind, rel, arity, Store, nodes}
+use Rattle.model.specs.WellFormed.{Extends}
+use Rattle.model.proofs.Bools.{by-test}
+use Rattle.model.proofs.Settle.{run-ext}
+use Rattle.memory.specs.declared.RunState.{RunState}
 use Rattle.memory.specs.declared.Properties.{Properties}
-use Rattle.memory.specs.declared.Found.{Found}
-use Rattle.memory.specs.declared.Found.the-variants.{Answer, Operands}
-use Rattle.memory.specs.Arena.{arena, Ready, ends, Writes, Runs, Condition, PerformsOn, Performs, Left, StandsOn, answered, AnswersOn, Looks, Tells}
-use Rattle.memory.specs.Rows.{places, plain}
+use Rattle.memory.specs.declared.Lookup.{Lookup}
+use Rattle.memory.specs.declared.Lookup.the-variants.{Answer, Operands}
+use Rattle.memory.specs.Performing.{run-state, Ready, ends, Writes, Runs, Condition, PerformsOn, Performs, ReducesTo, ReducesOn, looked-up, LooksUpOn, ReadsChildren, KnowsProperties}
+use Rattle.memory.specs.Rows.{places, plain, places-of}
 use Rattle.memory.specs.Working.{Right}
 use Rattle.memory.proofs.Rows.{plain-length}
 
@@ -28,7 +28,7 @@ pub writes-same : {c n : ℕ} {m : List ℕ} → n ≤ places c m → Writes c n
 writes-same h = record { grows = omega arith; head = refl; rest = refl; most = h; long = refl }
 
 pub places-same : (c : ℕ) (m m′ : List ℕ) → length m′ ≡ length m → places c m′ ≡ places c m
-places-same c m m′ e = ap (λ l. min 4096 (l / c)) e
+places-same c m m′ e = ap (λ l. places-of l c) e
 
 pub writes-then : {c a b d : ℕ} {m m₁ m₂ : List ℕ} → Writes c a m m₁ b → Writes c b m₁ m₂ d → Writes c a m m₂ d
 writes-then {c} {a} {b} {d} {m} {m₁} {m₂} p q = record {
@@ -58,13 +58,13 @@ and-left true b e = refl
 and-left false b e = e
 
 -- nothing is done after a failure
-pub performs-stuck : {Q : Condition} {K : Kind} {p : Prog} {s : Arena} {m w : List ℕ} → s .ok ≡ false → PerformsOn Q K p s m m w w s
+pub performs-stuck : {Q : Condition} {K : Kind} {p : Prog} {s : RunState} {m w : List ℕ} → s .ok ≡ false → PerformsOn Q K p s m m w w s
 performs-stuck e = record {
-  runs = λ B c R. record { okay = rw e; done = λ t. absurd (false≢true (sym e ∙ t)); writes = writes-same (R .room); wide = refl };
+  runs = λ B c R. record { okay = rw e; done = λ t. absurd (false≢true (sym e ∙ t)); writes = writes-same (R .room); work-length = refl };
 }
 
 -- what holds over every store holds over those with Q
-pub performs-on : {Q : Condition} {K : Kind} {p : Prog} {s r : Arena} {m m′ w w′ : List ℕ} → Performs K p s m m′ w w′ r → PerformsOn Q K p s m m′ w w′ r
+pub performs-on : {Q : Condition} {K : Kind} {p : Prog} {s r : RunState} {m m′ w w′ : List ℕ} → Performs K p s m m′ w w′ r → PerformsOn Q K p s m m′ w w′ r
 performs-on d = record { runs = λ B c R. d .runs B tt R }
 
 -- TWO CALLS, one after the other
@@ -83,7 +83,7 @@ over-then K p f S true n e = lt-leb _ n (omega (
       (run-ext (f (run p S .value)) (run p S .store)),
 ))
 
-module _ {K : Kind} {p : Prog} {B : Store} {s r : Arena} {m m′ w w′ : List ℕ} (d : Runs K p B s m m′ w w′ r) where
+module _ {K : Kind} {p : Prog} {B : Store} {s r : RunState} {m m′ w w′ : List ℕ} (d : Runs K p B s m m′ w w′ r) where
   pub was-ok : r .ok ≡ true → s .ok ≡ true
   was-ok t = and-left (s .ok) _ (sym (d .okay) ∙ t)
 
@@ -91,7 +91,7 @@ module _ {K : Kind} {p : Prog} {B : Store} {s r : Arena} {m m′ w w′ : List �
   pub done-ran : r .ok ≡ true → ran (plain K B m′ (r .n)) (r .h) ≡ run p (plain K B m (s .n))
   done-ran t i = ran (d .done t .store i) (d .done t .value i)
 
-module _ {Q : Condition} {K : Kind} {p : Prog} {f : ℕ → Prog} {s r₁ r₂ : Arena} {m m₁ m₂ w w₁ w₂ : List ℕ} (d : PerformsOn Q K p s m m₁ w w₁ r₁)
+module _ {Q : Condition} {K : Kind} {p : Prog} {f : ℕ → Prog} {s r₁ r₂ : RunState} {m m₁ m₂ w w₁ w₂ : List ℕ} (d : PerformsOn Q K p s m m₁ w w₁ r₁)
     (e : PerformsOn Q K (f (r₁ .h)) r₁ m₁ m₂ w₁ w₂ r₂) (B : Store) (c : Q B) (R : Ready K (bind p f) B s m w) where
   first-runs : Runs K p B s m m₁ w w₁ r₁
   unfolding Safe
@@ -131,10 +131,10 @@ module _ {Q : Condition} {K : Kind} {p : Prog} {f : ℕ → Prog} {s r₁ r₂ :
       work = b .done t .work;
     };
     writes = writes-then (a .writes) (b .writes);
-    wide = b .wide ∙ a .wide;
+    work-length = b .work-length ∙ a .work-length;
   }
 
-pub performs-then : {Q : Condition} {K : Kind} {p : Prog} {f : ℕ → Prog} {s r₁ r₂ : Arena} {m m₁ m₂ w w₁ w₂ : List ℕ} → PerformsOn Q K p s m m₁ w w₁ r₁
+pub performs-then : {Q : Condition} {K : Kind} {p : Prog} {f : ℕ → Prog} {s r₁ r₂ : RunState} {m m₁ m₂ w w₁ w₂ : List ℕ} → PerformsOn Q K p s m m₁ w w₁ r₁
     → PerformsOn Q K (f (r₁ .h)) r₁ m₁ m₂ w₁ w₂ r₂ → PerformsOn Q K (bind p f) s m m₂ w w₂ r₂
 performs-then d e = record { runs = λ B c R. both-runs d e B c R }
 
@@ -143,33 +143,33 @@ pub record Decides (Q : Condition) (K : Kind) (m w : List ℕ) (t : Test) (b : B
   pub decides : (B : Store) → Q B → (n : ℕ) → n ≤ places (arity K) m → Right K B w m n → Sure t (plain K B m n) → holds t (plain K B m n) ≡ b
 
 module _ {Q : Condition} {K : Kind} {p : Prog} {m w : List ℕ} where
-  pub begin : StandsOn Q K p p m w
+  pub begin : ReducesOn Q K p p m w
   begin = record { left = λ B c n l a R. record { runs = refl; safe = a } }
 
-  pub turn : {q q′ : Prog} → StandsOn Q K p q m w
-      → ((B : Store) → Q B → (n : ℕ) → n ≤ places (arity K) m → Safe q (plain K B m n) → Right K B w m n → Left q q′ (plain K B m n)) → StandsOn Q K p q′ m w
+  pub turn : {q q′ : Prog} → ReducesOn Q K p q m w
+      → ((B : Store) → Q B → (n : ℕ) → n ≤ places (arity K) m → Safe q (plain K B m n) → Right K B w m n → ReducesTo q q′ (plain K B m n)) → ReducesOn Q K p q′ m w
   turn u f = record {
     left = λ B c n l a R. let x = u .left B c n l a R in let y = f B c n l (x .safe) R in record { runs = x .runs ∙ y .runs; safe = y .safe };
   }
 
-  pub further : {q q′ : Prog} → StandsOn Q K p q m w → StandsOn Q K q q′ m w → StandsOn Q K p q′ m w
+  pub further : {q q′ : Prog} → ReducesOn Q K p q m w → ReducesOn Q K q q′ m w → ReducesOn Q K p q′ m w
   further u v = turn u (λ B c n l a R. v .left B c n l a R)
 
   -- the same program by another name
-  pub by : {q q′ : Prog} → StandsOn Q K p q m w → q ≡ q′ → StandsOn Q K p q′ m w
-  by {q} u e = turn u (λ B c n l a R. subst (λ x. Left q x (plain K B m n)) e (record { runs = refl; safe = a }))
+  pub by : {q q′ : Prog} → ReducesOn Q K p q m w → q ≡ q′ → ReducesOn Q K p q′ m w
+  by {q} u e = turn u (λ B c n l a R. subst (λ x. ReducesTo q x (plain K B m n)) e (record { runs = refl; safe = a }))
 
   -- the test holds; it does not
-  pub yes : {t : Test} {q q′ : Prog} → StandsOn Q K p (ask t q q′) m w → Decides Q K m w t true → StandsOn Q K p q m w
+  pub yes : {t : Test} {q q′ : Prog} → ReducesOn Q K p (ask t q q′) m w → Decides Q K m w t true → ReducesOn Q K p q m w
   unfolding run Safe
   yes u f = turn u (λ B c n l a R. let e = f .decides B c n l R (a .0) in record { runs = rw e; safe = rw e at (a .1) })
 
-  pub no : {t : Test} {q q′ : Prog} → StandsOn Q K p (ask t q q′) m w → Decides Q K m w t false → StandsOn Q K p q′ m w
+  pub no : {t : Test} {q q′ : Prog} → ReducesOn Q K p (ask t q q′) m w → Decides Q K m w t false → ReducesOn Q K p q′ m w
   unfolding run Safe
   no u f = turn u (λ B c n l a R. let e = f .decides B c n l R (a .0) in record { runs = rw e; safe = rw e at (a .1) })
 
   -- the children of h are x
-  pub looked : {f : List ℕ → Prog} {h : ℕ} {x : List ℕ} → StandsOn Q K p (look K h f) m w → Looks K m h x → StandsOn Q K p (f x) m w
+  pub looked : {f : List ℕ → Prog} {h : ℕ} {x : List ℕ} → ReducesOn Q K p (look K h f) m w → ReadsChildren K m h x → ReducesOn Q K p (f x) m w
   unfolding run Safe
   looked {f} u k = turn u (λ B c n l a R. let e = k .kids B n l (a .0) in record {
     runs = ap (λ y. run (f y) (plain K B m n)) e;
@@ -177,7 +177,7 @@ module _ {Q : Condition} {K : Kind} {p : Prog} {m w : List ℕ} where
   })
 
   -- RETURNS: all that is left is done by a call; a number is left; nothing can be left at level 0
-  pub called : {q : Prog} {s r : Arena} {m′ w′ : List ℕ} → s .ok ≡ true → StandsOn Q K p q m w → PerformsOn Q K q s m m′ w w′ r → PerformsOn Q K p s m m′ w w′ r
+  pub called : {q : Prog} {s r : RunState} {m′ w′ : List ℕ} → s .ok ≡ true → ReducesOn Q K p q m w → PerformsOn Q K q s m m′ w w′ r → PerformsOn Q K p s m m′ w w′ r
   unfolding ends
   called {s = s} ok u d = record {
     runs = λ B c R. let F = R .live ok in let a = u .left B c (s .n) (R .room) (F .safe) (F .work) in
@@ -189,41 +189,41 @@ module _ {Q : Condition} {K : Kind} {p : Prog} {m w : List ℕ} where
             work = b .done t .work;
           };
           writes = b .writes;
-          wide = b .wide;
+          work-length = b .work-length;
         };
   }
 
-  pub impossible : {s r : Arena} {m′ w′ : List ℕ} → s .ok ≡ true → StandsOn Q K p panic m w → PerformsOn Q K p s m m′ w w′ r
+  pub impossible : {s r : RunState} {m′ w′ : List ℕ} → s .ok ≡ true → ReducesOn Q K p panic m w → PerformsOn Q K p s m m′ w w′ r
   unfolding Safe
   impossible {s = s} ok u = record { runs = λ B c R. let F = R .live ok in absurd (u .left B c (s .n) (R .room) (F .safe) (F .work) .safe) }
 
--- tests on numbers, and on the properties that were told
+-- tests on numbers, and on known properties
 pub same-says : {Q : Condition} {K : Kind} {m w : List ℕ} {a b : ℕ} {v : Bool} → eqb a b ≡ v → Decides Q K m w (same a b) v
 same-says e = record { decides = λ B c n l R s. e }
 
 pub less-says : {Q : Condition} {K : Kind} {m w : List ℕ} {a b : ℕ} {v : Bool} → ltb a b ≡ v → Decides Q K m w (less a b) v
 less-says e = record { decides = λ B c n l R s. e }
 
-module _ {Q : Condition} {K : Kind} {m w : List ℕ} {l h : ℕ} {r : Properties} {v : Bool} (T′ : Tells K m w l h r) where
+module _ {Q : Condition} {K : Kind} {m w : List ℕ} {l h : ℕ} {r : Properties} {v : Bool} (T′ : KnowsProperties K m w l h r) where
   pub empty-says : r .empty ≡ v → Decides Q K m w (has isEmpty K l h) v
   empty-says e = record { decides = λ B c n i R s. T′ .tells (R .fields) B n i (R .formed) (R .words) s .empty ∙ e }
 
   pub universal-says : r .universal ≡ v → Decides Q K m w (has isUniversal K l h) v
   universal-says e = record { decides = λ B c n i R s. T′ .tells (R .fields) B n i (R .formed) (R .words) s .universal ∙ e }
 
-pub identity-says : {Q : Condition} {m w : List ℕ} {l h : ℕ} {r : Properties} {v : Bool} → Tells rel m w l h r → r .identity ≡ v
+pub identity-says : {Q : Condition} {m w : List ℕ} {l h : ℕ} {r : Properties} {v : Bool} → KnowsProperties rel m w l h r → r .identity ≡ v
     → Decides Q rel m w (has isIdentity rel l h) v
 identity-says A e = record { decides = λ B c n i R s. A .tells (R .fields) B n i (R .formed) (R .words) s .identity refl ∙ e }
 
 -- a number is given, after a failure or not
-pub performs-ret : {Q : Condition} {K : Kind} {s r : Arena} {m w : List ℕ} (h : ℕ) → r ≡ arena (s .ok) (s .n) h → PerformsOn Q K (ret h) s m m w w r
+pub performs-ret : {Q : Condition} {K : Kind} {s r : RunState} {m w : List ℕ} (h : ℕ) → r ≡ run-state (s .ok) (s .n) h → PerformsOn Q K (ret h) s m m w w r
 unfolding run ends
 performs-ret {Q} {K} {s} {r} {m} {w} h q = subst (λ x. PerformsOn Q K (ret h) s m m w w x) (sym q) (record {
   runs = λ B c R. record {
     okay = sym (ap (λ b. s .ok && b) (le-leb _ (places (arity K) m) (omega (arith, plain-length K B m (s .n), R .room))) ∙ and-true (s .ok));
     done = λ t. record { store = refl; value = refl; work = R .live t .work };
     writes = writes-same (R .room);
-    wide = refl;
+    work-length = refl;
   };
 })
   where
@@ -231,17 +231,17 @@ performs-ret {Q} {K} {s} {r} {m} {w} h q = subst (λ x. PerformsOn Q K (ret h) s
     and-true true = refl
     and-true false = refl
 
-pub given : {Q : Condition} {K : Kind} {p : Prog} {s r : Arena} {m w : List ℕ} {h : ℕ} → s .ok ≡ true → StandsOn Q K p (ret h) m w
-    → r ≡ arena (s .ok) (s .n) h → PerformsOn Q K p s m m w w r
+pub given : {Q : Condition} {K : Kind} {p : Prog} {s r : RunState} {m w : List ℕ} {h : ℕ} → s .ok ≡ true → ReducesOn Q K p (ret h) m w
+    → r ≡ run-state (s .ok) (s .n) h → PerformsOn Q K p s m m w w r
 given {h = h} ok u q = called ok u (performs-ret h q)
 
 -- the same program by another name
-pub performs-by : {Q : Condition} {K : Kind} {p q : Prog} {s r : Arena} {m m′ w w′ : List ℕ} → p ≡ q → PerformsOn Q K q s m m′ w w′ r
+pub performs-by : {Q : Condition} {K : Kind} {p q : Prog} {s r : RunState} {m m′ w w′ : List ℕ} → p ≡ q → PerformsOn Q K q s m m′ w w′ r
     → PerformsOn Q K p s m m′ w w′ r
 performs-by {Q} {K} {s = s} {r = r} {m = m} {m′ = m′} {w = w} {w′ = w′} e d = subst (λ x. PerformsOn Q K x s m m′ w w′ r) (sym e) d
 
 -- a test on numbers made between two calls, after a failure or not
-performs-test : {Q : Condition} {K : Kind} {p q : Prog} {s r : Arena} {m m′ w w′ : List ℕ} → ((S : Store) → run p S ≡ run q S)
+performs-test : {Q : Condition} {K : Kind} {p q : Prog} {s r : RunState} {m m′ w w′ : List ℕ} → ((S : Store) → run p S ≡ run q S)
     → ((S : Store) → Safe p S → Safe q S) → PerformsOn Q K q s m m′ w w′ r → PerformsOn Q K p s m m′ w w′ r
 unfolding ends
 performs-test {K = K} {s = s} {m = m} e f d = record {
@@ -254,11 +254,11 @@ performs-test {K = K} {s = s} {m = m} e f d = record {
           work = b .done t .work;
         };
         writes = b .writes;
-        wide = b .wide;
+        work-length = b .work-length;
       };
 }
 
-module _ {Q : Condition} {K : Kind} {q q′ : Prog} {s r : Arena} {m m′ w w′ : List ℕ} (a b : ℕ) where
+module _ {Q : Condition} {K : Kind} {q q′ : Prog} {s r : RunState} {m m′ w w′ : List ℕ} (a b : ℕ) where
   pub performs-same : eqb a b ≡ true → PerformsOn Q K q s m m′ w w′ r → PerformsOn Q K (ask (same a b) q q′) s m m′ w w′ r
   unfolding run Safe
   performs-same e = performs-test (λ S. rw e) (λ S h. rw e at (h .1))
@@ -269,19 +269,19 @@ module _ {Q : Condition} {K : Kind} {q q′ : Prog} {s r : Arena} {m m′ w w′
 
 -- ANSWERS of shortcuts
 module _ {Q : Condition} {K : Kind} {p : Prog} {node : ℕ → ℕ → Prog} {m w : List ℕ} where
-  pub answer : {h : ℕ} → StandsOn Q K p (ret h) m w → AnswersOn Q K p node m w (Answer h)
+  pub answer : {h : ℕ} → ReducesOn Q K p (ret h) m w → LooksUpOn Q K p node m w (Answer h)
   unfolding run
   answer u = record { answers = λ B c n l a R. u .left B c n l a R .runs }
 
-  pub answer-stands : {r : Found} {h : ℕ} → AnswersOn Q K p node m w r → r ≡ Answer h → StandsOn Q K p (ret h) m w
+  pub answer-reduces : {r : Lookup} {h : ℕ} → LooksUpOn Q K p node m w r → r ≡ Answer h → ReducesOn Q K p (ret h) m w
   unfolding run Safe
-  answer-stands {r} {h} a e = record {
+  answer-reduces {r} {h} a e = record {
     left = λ B c n l s R. record {
-      runs = subst (λ z. answered p node (plain K B m n) z) e
+      runs = subst (λ z. looked-up p node (plain K B m n) z) e
           (a .answers B c n l s R);
       safe = tt;
     };
   }
 
-  pub node-stands : {r : Found} {x y : ℕ} → AnswersOn Q K p node m w r → r ≡ Operands x y → StandsOn Q K p (node x y) m w
-  node-stands a e = record { left = λ B c n l s R. subst (λ z. answered p node (plain K B m n) z) e (a .answers B c n l s R) }
+  pub node-reduces : {r : Lookup} {x y : ℕ} → LooksUpOn Q K p node m w r → r ≡ Operands x y → ReducesOn Q K p (node x y) m w
+  node-reduces a e = record { left = λ B c n l s R. subst (λ z. looked-up p node (plain K B m n) z) e (a .answers B c n l s R) }

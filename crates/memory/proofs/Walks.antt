@@ -7,13 +7,13 @@ use Prim.Native.Nat.{ℕ, zero, suc, _-_, _<_}
 use native.Mathlib.Omega.{arith}
 use lib.Dec.{eqb, T}
 use borrow.Author.Tests.{eq-eqb, eqb-true}
-use Rattle.nodes.specs.Store.{Kind, set, rel, arity, Store, child}
-use Rattle.nodes.specs.Programs.{isIdentity, ending, all-below, agrees}
-use Rattle.nodes.specs.WellFormed.{Held, WellFormed}
-use Rattle.nodes.specs.Safety.{Within}
-use Rattle.nodes.proofs.Tests.{ident, all-below-T}
-use Rattle.nodes.proofs.Levels.{agrees-once}
-use Rattle.nodes.proofs.Bools.{no-true}
+use Rattle.model.specs.Store.{Kind, set, rel, arity, Store, child}
+use Rattle.model.specs.Programs.{isIdentity, ending, all-below, agrees}
+use Rattle.model.specs.WellFormed.{Held, WellFormed}
+use Rattle.model.specs.Safety.{Within}
+use Rattle.model.proofs.Tests.{ident, all-below-T}
+use Rattle.model.proofs.Levels.{agrees-once}
+use Rattle.model.proofs.Bools.{no-true}
 use Rattle.memory.specs.Working.{Has}
 use Rattle.memory.specs.Noting.{properties}
 use Rattle.memory.specs.declared.Properties.{Properties}

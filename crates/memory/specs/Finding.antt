@@ -17,7 +17,7 @@ pub record Finds (node : ℕ → List ℕ) (n : ℕ) (x : List ℕ) (good : Bool
 abbrev pub Search : List ℕ → List ℕ → List ℕ → ℕ → ℕ → Type 0
 Search x m w n r = (good : Bool) → (good ≡ true → Indexed (row (length x) m) w n) → Finds (row (length x) m) n x good r
 
--- the same of a search that is told where the index begins
+-- the same of a search that is given the place where the index begins
 abbrev pub SearchAt : List ℕ → List ℕ → List ℕ → ℕ → ℕ → ℕ → Type 0
 SearchAt x m w at n r = (good : Bool) → at ≡ memo-size (length w) → (good ≡ true → Indexed (row (length x) m) w n) → Finds (row (length x) m) n x good r
 
@@ -26,11 +26,11 @@ pub record Entered (node : ℕ → List ℕ) (n : ℕ) (w w′ : List ℕ) : Typ
   pub index : Indexed node w n → Indexed node w′ (n + 1)
   pub memo : take (memo-size (length w)) w′ ≡ take (memo-size (length w)) w
   pub words : drop (memo-size (length w) + 8192) w′ ≡ drop (memo-size (length w) + 8192) w
-  pub wide : length w′ ≡ length w
+  pub work-length : length w′ ≡ length w
 
 -- the index is empty, and nothing else changed
 pub record Emptied (w w′ : List ℕ) : Type 0 where
   pub index : (node : ℕ → List ℕ) → Indexed node w′ 0
   pub memo : take (memo-size (length w)) w′ ≡ take (memo-size (length w)) w
   pub words : drop (memo-size (length w) + 8192) w′ ≡ drop (memo-size (length w) + 8192) w
-  pub wide : length w′ ≡ length w
+  pub work-length : length w′ ≡ length w

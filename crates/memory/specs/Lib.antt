@@ -3,4 +3,4 @@ pub mod Memo
 pub mod Working
 pub mod Finding
 pub mod Noting
-pub mod Arena
+pub mod Performing

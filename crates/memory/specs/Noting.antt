@@ -6,10 +6,10 @@ use mathlib.Core.Logic.{_⊎_}
 use Prim.Native.Nat.{ℕ, _+_, _-_, _<_, _≤_}
 use lib.ListN.{length, getD, set}
 use lib.Dec.{eqb}
-use Rattle.nodes.specs.Store.{Kind, rel, arity, Store, nodes, handle-of, get}
-use Rattle.nodes.specs.Programs.{ending, isIdentity, all-below, agrees}
-use Rattle.nodes.specs.WellFormed.{Held, WellFormed}
-use Rattle.nodes.specs.Safety.{Within}
+use Rattle.model.specs.Store.{Kind, rel, arity, Store, nodes, handle-of, get}
+use Rattle.model.specs.Programs.{ending, isIdentity, all-below, agrees}
+use Rattle.model.specs.WellFormed.{Held, WellFormed}
+use Rattle.model.specs.Safety.{Within}
 use Rattle.memory.specs.Rows.{places, plain}
 use Rattle.memory.specs.Working.{words-at, properties-in, Known, Words}
 use Rattle.memory.specs.declared.Properties.{Properties}
@@ -29,8 +29,8 @@ abbrev pub WordsOf : Kind → List ℕ → Store → Type 0
 WordsOf K ws S = (i : ℕ) → i < length ws → i < length (nodes K S) → Known K S (handle-of K 0 i) (getD ws i 0)
 
 -- r says nothing wrong of h
-abbrev pub Read : List ℕ → ℕ → ℕ → ℕ → Type 0
-Read ws c h r = (K : Kind) (k : ℕ) (S : Store) → c ≡ arity K → WellFormed k S → WordsOf K ws S → Known K S h r
+abbrev pub ReadsWord : List ℕ → ℕ → ℕ → ℕ → Type 0
+ReadsWord ws c h r = (K : Kind) (k : ℕ) (S : Store) → c ≡ arity K → WellFormed k S → WordsOf K ws S → Known K S h r
 
 -- the same, from the working memory
 abbrev pub KnownWord : List ℕ → ℕ → ℕ → ℕ → Type 0

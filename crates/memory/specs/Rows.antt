@@ -2,7 +2,7 @@
 use mathlib.Core.List.{List, [], _∷_}
 use Prim.Native.Nat.{ℕ, zero, suc, _*_, _/_, min}
 use lib.ListN.{length, take, drop}
-use Rattle.nodes.specs.Store.{Kind, arity, Nodes, Store, with-nodes}
+use Rattle.model.specs.Store.{Kind, arity, Nodes, Store, with-nodes}
 
 -- the numbers of the node at place i
 abbrev pub row : ℕ → List ℕ → ℕ → List ℕ
@@ -18,8 +18,15 @@ unfoldable pub rows : ℕ → ℕ → List ℕ → Nodes
 rows c n m = nodes-from (row c m) 0 n
 
 -- 01: "Places are the whole nodes that fit, at most 4,096 in each"
+abbrev pub most-places : ℕ
+most-places = 4096
+
+-- how many nodes of c numbers fit in n numbers
+abbrev pub places-of : ℕ → ℕ → ℕ
+places-of n c = min most-places (n / c)
+
 abbrev pub places : ℕ → List ℕ → ℕ
-places c m = min 4096 (length m / c)
+places c m = places-of (length m) c
 
 -- the store B with the first n nodes of m for its nodes of kind K
 abbrev pub plain : Kind → Store → List ℕ → ℕ → Store

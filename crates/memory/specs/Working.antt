@@ -5,10 +5,10 @@ use mathlib.Core.Bool.{Bool}
 use Prim.Native.Nat.{ℕ, zero, suc, _+_, _-_, _*_, _/_, _%_, _<_, _≤_, min}
 use lib.ListN.{length, getD}
 use lib.Dec.{eqb, ltb}
-use Rattle.nodes.specs.Store.{Kind, set, rel, arity, Store, nodes, pick, handle-of}
-use Rattle.nodes.specs.Programs.{isEmpty, isUniversal, isIdentity, ending, agrees}
-use Rattle.nodes.specs.WellFormed.{Held, WellFormed}
-use Rattle.nodes.specs.Safety.{Settled}
+use Rattle.model.specs.Store.{Kind, set, rel, arity, Store, nodes, pick, handle-of}
+use Rattle.model.specs.Programs.{isEmpty, isUniversal, isIdentity, ending, agrees}
+use Rattle.model.specs.WellFormed.{Held, WellFormed}
+use Rattle.model.specs.Safety.{Settled}
 use Rattle.memory.specs.Rows.{row, plain}
 use Rattle.memory.specs.Memo.{memo-program}
 use Rattle.memory.specs.declared.Properties.{Properties}

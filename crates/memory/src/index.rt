@@ -95,7 +95,7 @@ fn chase(nodes: &[u32], work: &[u32], at: usize, n: usize, x: &[u32]) -> usize
     ensures { λ r. ⌜ SearchAt (now (x .entry)) (now (nodes .entry)) (now (work .entry)) at n r ⌝ }
 {
     let b = hash(x);
-    let mut v = crate::wide(work[at + b]);
+    let mut v = crate::as_index(work[at + b]);
     while v != 0 {
         if v > n {
             return n;
@@ -104,7 +104,7 @@ fn chase(nodes: &[u32], work: &[u32], at: usize, n: usize, x: &[u32]) -> usize
         if same(nodes, i, x) {
             return i;
         }
-        let next = crate::wide(work[at + PART + i]);
+        let next = crate::as_index(work[at + PART + i]);
         if next >= v {
             return n;
         }
@@ -159,5 +159,5 @@ pub fn empty(work: &mut [u32])
     if work.len() - m < 8192 {
         return;
     }
-    nodes::clear(&mut work[m..m + 4096]);
+    crate::clear(&mut work[m..m + 4096]);
 }

@@ -8,48 +8,48 @@ use lib.ListN.{length}
 use lib.Dec.{T}
 use borrow.Author.Tests.{le-leb}
 use borrow.Rule.Slice.PartMut.{putMid}
-use Rattle.nodes.specs.Store.{Kind, set, rel, arity, Store, nodes, pick}
-use Rattle.nodes.specs.Programs.{Prog, run}
-use Rattle.nodes.specs.Places.{fits-places}
-use Rattle.nodes.specs.Meaning.{Den, Relates}
-use Rattle.nodes.specs.Images.{blank, new}
-use Rattle.nodes.specs.Safety.{Safe}
-use Rattle.nodes.specs.WellFormed.{WellFormed}
-use Rattle.nodes.proofs.Bounded.{fits-places-iff, fits-back}
-use Rattle.nodes.proofs.Constants.{constant-does, full-does}
-use Rattle.nodes.proofs.New.{blank-formed, new-counts}
-use Rattle.nodes.proofs.Pairs.{top-relates}
-use Rattle.nodes.proofs.Rules.{Does, bind-does}
-use Rattle.nodes.proofs.Settle.{run-ext}
-use Rattle.nodes.proofs.Star.{identity-does}
-use Rattle.memory.specs.Arena.{arena, ends, Performs, Runs}
+use Rattle.model.specs.Store.{Kind, set, rel, arity, Store, nodes, pick}
+use Rattle.model.specs.Programs.{Prog, run}
+use Rattle.model.specs.Places.{fits-places}
+use Rattle.model.specs.Meaning.{Den, Relates}
+use Rattle.model.specs.Images.{blank, new}
+use Rattle.model.specs.Safety.{Safe}
+use Rattle.model.specs.WellFormed.{WellFormed}
+use Rattle.model.proofs.Bounded.{fits-places-iff, fits-back}
+use Rattle.model.proofs.Constants.{constant-does, full-does}
+use Rattle.model.proofs.New.{blank-formed, new-counts}
+use Rattle.model.proofs.Pairs.{top-relates}
+use Rattle.model.proofs.Rules.{Does, bind-does}
+use Rattle.model.proofs.Settle.{run-ext}
+use Rattle.model.proofs.Star.{identity-does}
+use Rattle.memory.specs.Performing.{run-state, ends, Performs, Runs}
 use Rattle.memory.specs.Finding.{Emptied}
 use Rattle.memory.specs.Rows.{rows, plain}
 use Rattle.memory.specs.Working.{Right}
-use Rattle.memory.specs.declared.Arena.{Arena}
+use Rattle.memory.specs.declared.RunState.{RunState}
 use Rattle.memory.proofs.Rows.{rows-length}
 use Rattle.memory.proofs.Starting.{right-turned, right-cleared}
 use Rattle.memory.proofs.Walks.{T-true}
-use Rattle.outcomes.specs.OnMemories.{set-places, rel-places, on-store}
-use Rattle.outcomes.specs.Checking.{Accepted}
+use Rattle.call_rules.specs.OnMemories.{set-places, rel-places, on-store}
+use Rattle.call_rules.specs.Checking.{CheckedStore}
 use Rattle.new_store.specs.Creating.{set-constants, relation-constants, Begun, Created}
-use Rattle.outcomes.specs.Finishing.{Finished}
-use Rattle.judging.specs.Memory.{Memories, memories, memory, head, count-at, count, fields, body, decode, encode}
-use Rattle.outcomes.specs.Outcome.{runs, handle-of, told, concludes}
-use Rattle.judging.specs.Valid.{IsStore}
-use Rattle.outcomes.specs.declared.Answer.{Answer}
-use Rattle.outcomes.specs.declared.Answer.the-variants.{Handle, Declined}
-use Rattle.outcomes.specs.declared.Refusal.the-variants.{UsedUp}
-use Rattle.outcomes.proofs.Encoding.{Space, encode-fields, decode-encode, encode-places, encode-store, encode-encode}
-use Rattle.outcomes.proofs.Outcomes.{decoded, judged, finished-commits, finished-ends}
-use Rattle.outcomes.proofs.Running.{part-of, runs-here, within-memory, ran-here}
+use Rattle.call_rules.specs.Finishing.{Finished}
+use Rattle.store_check.specs.Memory.{Memories, memories, memory, head, count-at, count, fields, body, decode, encode}
+use Rattle.call_rules.specs.Outcome.{runs, as-handle, outcome, finishes}
+use Rattle.store_check.specs.Valid.{IsStore}
+use Rattle.call_rules.specs.declared.Answer.{Answer}
+use Rattle.call_rules.specs.declared.Answer.the-variants.{Handle, Declined}
+use Rattle.call_rules.specs.declared.Refusal.the-variants.{UsedUp}
+use Rattle.call_rules.proofs.Encoding.{Space, encode-fields, decode-encode, encode-places, encode-store, encode-encode}
+use Rattle.call_rules.proofs.Outcomes.{decoded, store-outcome, finished-ends}
+use Rattle.call_rules.proofs.Running.{part-of, runs-here, within-memory, ran-here}
 
 -- a program that fits
 run-fits : (p : Prog) (M : Memories) → IsStore M → fits-places (set-places M) (rel-places M) (run p (decode M) .store) ≡ true
-    → on-store Declined (λ k S. runs p handle-of) M ≡ told (Handle (run p (decode M) .value)) (encode (fields M) (run p (decode M) .store) M)
-unfolding concludes
-run-fits p M s f = judged Declined (λ k S. runs p handle-of) M s (runs p handle-of) refl
-    ∙ ap (λ b. pick b (told (Handle (run p (decode M) .value)) (encode (fields M) (run p (decode M) .store) M)) (told (Declined UsedUp) M)) f
+    → on-store Declined (λ k S. runs p as-handle) M ≡ outcome (Handle (run p (decode M) .value)) (encode (fields M) (run p (decode M) .store) M)
+unfolding finishes
+run-fits p M s f = store-outcome Declined (λ k S. runs p as-handle) M s (runs p as-handle) refl
+    ∙ ap (λ b. pick b (outcome (Handle (run p (decode M) .value)) (encode (fields M) (run p (decode M) .store) M)) (outcome (Declined UsedUp) M)) f
 
 -- THE TWO PROGRAMS
 sets-do : (k : ℕ) → Does k blank (set-constants k) (Den set k (λ p. Unit {0}))
@@ -97,19 +97,19 @@ module _ (k : ℕ) (M : Memories) (w : List ℕ) (G : Begun k M w) where
       zero-nodes rel = refl
 
   -- THE SETS
-  ready-sets : Accepted set M w
+  ready-sets : CheckedStore set M w
   ready-sets = record {
     store = G .store;
     right = subst (λ n. Right set (decode M) w (body set (M .sets)) n) (none set)
         (subst (λ w. Right set (decode M) w (body set (M .sets)) 0) (sym (G .clear))
         (right-cleared (length w) k (subst (λ n. WellFormed k (plain set (decode M) (body set (M .sets)) n)) (sym (none set))
-        (subst (WellFormed k) (sym (decoded set M)) (subst (λ j. WellFormed j (decode M)) (G .wide) (G .store .formed))))));
+        (subst (WellFormed k) (sym (decoded set M)) (subst (λ j. WellFormed j (decode M)) (G .width) (G .store .formed))))));
   }
 
   sets-safe : Safe (set-constants k) (decode M)
   sets-safe = subst (Safe (set-constants k)) (sym (G .none)) (sets-do k .safe)
 
-  module _ (b w₁ : List ℕ) (s : Arena) (P : Performs set (set-constants k) (arena true 0 0) (part-of set M) b w w₁ s) where
+  module _ (b w₁ : List ℕ) (s : RunState) (P : Performs set (set-constants k) (run-state true 0 0) (part-of set M) b w w₁ s) where
     pub fill-within-sets : (0 ≤ s .n) × (s .n ≤ 4096)
         × (head set + arity set * s .n ≤ length (putMid (head set) (length (M .sets) - head set) (M .sets) b))
     fill-within-sets = within-memory set M w ready-sets 0 (none set) tt (set-constants k) (set-constants k) b w₁ s refl sets-safe P
@@ -122,10 +122,10 @@ module _ (k : ℕ) (M : Memories) (w : List ℕ) (G : Begun k M w) where
       first : M₁ ≡ encode k S₁ M
       first =
           let t = ran-here set M w ready-sets 0 (none set) tt (set-constants k) (set-constants k) b w₁ s refl sets-safe P
-          Declined (λ k S. runs _ handle-of) handle-of s′ a refl (finished-commits F) (finished-ends set _ _ F) in
+          Declined (λ k S. runs _ as-handle) as-handle s′ a refl (F .committed) (finished-ends set _ _ F) in
           let f : fits-places (set-places M) (rel-places M) (run (set-constants k) (decode M) .store) ≡ true
           = ap (λ R. fits-places (set-places M) (rel-places M) (R .store)) same-first ∙ T-true _ first-fits in
-          ap (λ u. u .state) (t ∙ run-fits (set-constants k) M (G .store) f) ∙ (λ i. encode (G .wide i) (same-first i .store) M)
+          ap (λ u. u .state) (t ∙ run-fits (set-constants k) M (G .store) f) ∙ (λ i. encode (G .width i) (same-first i .store) M)
 
       formed-first : WellFormed k S₁
       formed-first = sets-do k .after .formed
@@ -142,12 +142,12 @@ module _ (k : ℕ) (M : Memories) (w : List ℕ) (G : Begun k M w) where
       read-first = ap decode first ∙ decode-encode M k formed-first
 
       store-first : IsStore M₁
-      store-first = subst IsStore (sym first) (encode-store formed-first space-first (subst (λ j. j ≤ 32) (G .wide) (G .store .few)))
+      store-first = subst IsStore (sym first) (encode-store formed-first space-first (subst (λ j. j ≤ 32) (G .width) (G .store .few)))
 
       fields-first : fields M₁ ≡ k
       fields-first = ap fields first ∙ encode-fields k S₁ M
 
-      ran : Runs set (set-constants k) (decode M) (arena true (count set (M .sets)) 0) (body set (M .sets)) b w w₁ s
+      ran : Runs set (set-constants k) (decode M) (run-state true (count set (M .sets)) 0) (body set (M .sets)) b w w₁ s
       ran = runs-here set M w ready-sets 0 (none set) tt (set-constants k) (set-constants k) b w₁ s refl sets-safe P
 
       same-run : run (set-constants k) (plain set (decode M) (body set (M .sets)) (count set (M .sets))) ≡ run (set-constants k) blank
@@ -172,7 +172,7 @@ module _ (k : ℕ) (M : Memories) (w : List ℕ) (G : Begun k M w) where
         unfolding rows
         turned = (λ i. record { sets = read-first i .sets; rels = [] }) ∙ (λ i. record { sets = S₁ .sets; rels = sym no-relation i }) ∙ sym left
 
-        ready-relations : Accepted rel M₁ w₂
+        ready-relations : CheckedStore rel M₁ w₂
         ready-relations = record {
           store = store-first;
           right = subst (λ n. Right rel (decode M₁) w₂ (body rel (M₁ .relations)) n) none-first (right-turned turned (ran .done all-fitted .work) E);
@@ -181,7 +181,7 @@ module _ (k : ℕ) (M : Memories) (w : List ℕ) (G : Begun k M w) where
         relations-safe : Safe (relation-constants k) (decode M₁)
         relations-safe = subst (Safe (relation-constants k)) (sym read-first) (relations-do formed-first .safe)
 
-        module _ (d w₃ : List ℕ) (r : Arena) (Q : Performs rel (relation-constants k) (arena true 0 0) (part-of rel M₁) d w₂ w₃ r) where
+        module _ (d w₃ : List ℕ) (r : RunState) (Q : Performs rel (relation-constants k) (run-state true 0 0) (part-of rel M₁) d w₂ w₃ r) where
           pub fill-within-relations : (0 ≤ r .n) × (r .n ≤ 4096)
               × (head rel + arity rel * r .n ≤ length (putMid (head rel) (length (M .relations) - head rel) (M .relations) d))
           fill-within-relations =
@@ -193,7 +193,7 @@ module _ (k : ℕ) (M : Memories) (w : List ℕ) (G : Begun k M w) where
           filled r′ c H =
               let p = relation-constants k in
               let t = ran-here rel M₁ w₂ ready-relations 0 none-first tt p p d w₃ r refl relations-safe Q
-              Declined (λ k S. runs _ handle-of) handle-of r′ c refl (finished-commits H) (finished-ends rel _ _ H) in
+              Declined (λ k S. runs _ as-handle) as-handle r′ c refl (H .committed) (finished-ends rel _ _ H) in
               let e : run (relation-constants k) (decode M₁) ≡ run (new k) blank = ap (run (relation-constants k)) read-first ∙ sym (in-two k) in
               let f : fits-places (set-places M₁) (rel-places M₁) (run (relation-constants k) (decode M₁) .store) ≡ true
               = (λ i. fits-places (same-places i) (rel-places M) (e i .store)) ∙ T-true _ all-fits in

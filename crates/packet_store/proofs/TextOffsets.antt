@@ -5,28 +5,28 @@ use Prim.Native.Nat.{ℕ, _≤_}
 use native.Mathlib.Omega.{arith}
 use lib.Dec.{T, leb→le}
 use lib.ListN.{length}
-use Rattle.nodes.specs.Places.{fits-places}
-use Rattle.nodes.specs.Programs.{Ran, run}
-use Rattle.nodes.specs.Store.{Store as Nodes, pick}
-use Rattle.nodes.proofs.Bools.{by-test}
-use Rattle.judging.specs.Memory.{Memories, fields, decode, encode}
-use Rattle.judging.specs.Valid.{store?}
-use Rattle.outcomes.specs.OnMemories.{set-places, rel-places, on-store}
-use Rattle.outcomes.specs.Outcome.{Verdict, gives, runs, provided, going, told, concludes}
-use Rattle.outcomes.specs.declared.Check.the-variants.{Level}
-use Rattle.outcomes.specs.declared.Refusal.the-variants.{NotStore, TooLong, UsedUp}
-use Rattle.texts.specs.XForms.{x-forms}
-use Rattle.texts.specs.Answers.{Says}
-use Rattle.texts.specs.Reading.{reading}
-use Rattle.texts.specs.declared.Reading.{Reading}
-use Rattle.texts.specs.declared.Reading.the-variants.{Policy, NotPolicy, TooDeep, NoField, NotPredicate}
-use Rattle.texts.proofs.XLaws.{x-lawful, x-bounds}
-use Rattle.texts.proofs.Says.{says}
+use Rattle.model.specs.Places.{fits-places}
+use Rattle.model.specs.Programs.{Ran, run}
+use Rattle.model.specs.Store.{Store as Nodes, pick}
+use Rattle.model.proofs.Bools.{by-test}
+use Rattle.store_check.specs.Memory.{Memories, fields, decode, encode}
+use Rattle.store_check.specs.Valid.{store?}
+use Rattle.call_rules.specs.OnMemories.{set-places, rel-places, on-store}
+use Rattle.call_rules.specs.Outcome.{Verdict, gives, runs, guard, unless-declined, outcome, finishes}
+use Rattle.call_rules.specs.declared.Check.the-variants.{Level}
+use Rattle.call_rules.specs.declared.Refusal.the-variants.{NotStore, TooLong, UsedUp}
+use Rattle.policy_text.specs.XForms.{x-forms}
+use Rattle.policy_text.specs.Answers.{Says}
+use Rattle.policy_text.specs.Reading.{reading}
+use Rattle.policy_text.specs.declared.Reading.{Reading}
+use Rattle.policy_text.specs.declared.Reading.the-variants.{Policy, NotPolicy, TooDeep, NoField, NotPredicate}
+use Rattle.policy_text.proofs.XLaws.{x-lawful, x-bounds}
+use Rattle.policy_text.proofs.Says.{says}
 use Rattle.policies.specs.Outcome.{refused, of-reading, short?, text-verdict, policy-step}
 use Rattle.policies.specs.declared.PolicyAnswer.{PolicyAnswer}
 use Rattle.packet_store.specs.PackedPolicy.{offset}
 
--- whatever a verdict comes to has an offset of at most n
+-- the outcome of any verdict has an offset of at most n
 abbrev OffsetBy : ℕ → Verdict PolicyAnswer → Type 0
 OffsetBy n (gives a) = offset a ≤ n
 OffsetBy n (runs p f) = (R : Ran) → offset (f R) ≤ n
@@ -51,23 +51,23 @@ verdict-short k t S = by-test (λ b. OffsetBy 4096 (pick b (of-reading k t (read
     (reading-inside k t (reading x-forms k t) (says x-lawful k (x-bounds k) t)))
     (λ s. omega arith)
 
-concludes-offset : {X : Type 0} (m n : ℕ) (S : Nodes) (x : X) (put : Nodes → X) (v : Verdict PolicyAnswer) → OffsetBy 4096 v
-    → offset (concludes (refused UsedUp) m n v S x put .answer) ≤ 4096
-unfolding concludes
-concludes-offset m n S x put (gives a) o = o
-concludes-offset m n S x put (runs p f) o =
-    by-test (λ b. offset (pick b (told (f (run p S)) (put (run p S .store))) (told (refused UsedUp) x) .answer) ≤ 4096)
+finishes-offset : {X : Type 0} (m n : ℕ) (S : Nodes) (x : X) (put : Nodes → X) (v : Verdict PolicyAnswer) → OffsetBy 4096 v
+    → offset (finishes (refused UsedUp) m n v S x put .answer) ≤ 4096
+unfolding finishes
+finishes-offset m n S x put (gives a) o = o
+finishes-offset m n S x put (runs p f) o =
+    by-test (λ b. offset (pick b (outcome (f (run p S)) (put (run p S .store))) (outcome (refused UsedUp) x) .answer) ≤ 4096)
     (fits-places m n (run p S .store)) (λ _. o (run p S)) (λ _. omega arith)
 
 module _ (t : List ℕ) (M : Memories) where
   step-short : offset (policy-step t M .answer) ≤ 4096
-  unfolding policy-step on-store provided
-  step-short = by-test (λ b. offset (concludes (refused UsedUp) (set-places M) (rel-places M)
-      (going refused (provided NotStore b (Level (fields M))) (λ k. text-verdict t k (decode M))) (decode M) M (λ S. encode (fields M) S M) .answer) ≤ 4096)
+  unfolding policy-step on-store guard
+  step-short = by-test (λ b. offset (finishes (refused UsedUp) (set-places M) (rel-places M)
+      (unless-declined refused (guard NotStore b (Level (fields M))) (λ k. text-verdict t k (decode M))) (decode M) M (λ S. encode (fields M) S M) .answer) ≤ 4096)
       (store? M)
-      (λ _. concludes-offset (set-places M) (rel-places M) (decode M) M (λ S. encode (fields M) S M) _ (verdict-short (fields M) t (decode M)))
-      (λ _. concludes-offset (set-places M) (rel-places M) (decode M) M (λ S. encode (fields M) S M) (gives (refused NotStore)) (omega arith))
+      (λ _. finishes-offset (set-places M) (rel-places M) (decode M) M (λ S. encode (fields M) S M) _ (verdict-short (fields M) t (decode M)))
+      (λ _. finishes-offset (set-places M) (rel-places M) (decode M) M (λ S. encode (fields M) S M) (gives (refused NotStore)) (omega arith))
 
   -- THE CLAIM, of what a policy call answers
-  pub short-offset : (M′ : Memories) (a : PolicyAnswer) → told a M′ ≡ policy-step t M → offset a ≤ 4096
+  pub short-offset : (M′ : Memories) (a : PolicyAnswer) → outcome a M′ ≡ policy-step t M → offset a ≤ 4096
   short-offset M′ a e = subst (λ u. offset (u .answer) ≤ 4096) (sym e) step-short

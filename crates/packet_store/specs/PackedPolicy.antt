@@ -2,7 +2,7 @@
 use mathlib.Core.List.{List}
 use Prim.Native.Nat.{ℕ}
 use lib.ListN.{getD}
-use Rattle.judging.specs.Memory.{Memories}
+use Rattle.store_check.specs.Memory.{Memories}
 use Rattle.packing.specs.Packed.{halves}
 use Rattle.packing.specs.Returns.{Returns}
 use Rattle.policies.specs.Answers.{policy-refusal, policy-values}

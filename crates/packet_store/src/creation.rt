@@ -1,5 +1,5 @@
 // The call that begins a store, under its C name.
-ghost use Rattle.judging.specs.Memory.{memories};
+ghost use Rattle.store_check.specs.Memory.{memories};
 ghost use Rattle.store.specs.Calls.{new-store, step};
 ghost use Rattle.packing.specs.Returns.{Answers};
 

@@ -1,5 +1,5 @@
 // The calls that read sets and may add relations, under C names.
-ghost use Rattle.judging.specs.Memory.{memories};
+ghost use Rattle.store_check.specs.Memory.{memories};
 ghost use Rattle.store.specs.Calls.{filter-call, step};
 ghost use Rattle.store.specs.declared.filter_calls.FilterCall.the-variants.{Diagonal, Ifwd, Ibwd};
 ghost use Rattle.packing.specs.Returns.{Answers};

@@ -1,5 +1,5 @@
 // The calls that read relations and may add sets, under C names.
-ghost use Rattle.judging.specs.Memory.{memories};
+ghost use Rattle.store_check.specs.Memory.{memories};
 ghost use Rattle.store.specs.Calls.{image-call, step};
 ghost use Rattle.store.specs.declared.image_calls.ImageCall.the-variants.{Fwd, Bwd, Push, Pull};
 ghost use Rattle.packing.specs.Returns.{Answers};

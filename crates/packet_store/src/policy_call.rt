@@ -1,7 +1,7 @@
 // The call on a policy text, under its C name.
 ghost use mathlib.Core.Path.{_≡_};
 ghost use Prim.Native.Nat.{_≤_};
-ghost use Rattle.judging.specs.Memory.{memories};
+ghost use Rattle.store_check.specs.Memory.{memories};
 ghost use Rattle.policies.specs.declared.PolicyAnswer.the-variants.{Declined};
 ghost use Rattle.packet_store.specs.PackedPolicy.{offset, packed-policy, AnswersPolicy};
 use policies::PolicyAnswer;
@@ -14,7 +14,7 @@ fn pack_refusal(r: PolicyRefusal) -> u64
 {
     match r {
         PolicyRefusal::At(f, i) => policies::fault_number(f) as u64 * 0x1_0000_0000 + i as u64,
-        PolicyRefusal::Store(s) => outcomes::number_of(s) as u64 * 0x1_0000_0000,
+        PolicyRefusal::Store(s) => call_rules::number_of(s) as u64 * 0x1_0000_0000,
     }
 }
 

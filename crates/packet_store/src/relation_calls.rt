@@ -1,5 +1,5 @@
 // The calls on relations that may add some, under C names.
-ghost use Rattle.judging.specs.Memory.{memories};
+ghost use Rattle.store_check.specs.Memory.{memories};
 ghost use Rattle.store.specs.Calls.{relation-call, step};
 ghost use Rattle.store.specs.declared.relation_calls.RelationCall.the-variants.{Mk, Zero, One, Top, Union, Intersect, Xor, Difference, Complement};
 ghost use Rattle.store.specs.declared.relation_calls.RelationCall.the-variants.{Sequence, Star, Flip, Test, Assign, NaiveForward, Backward};

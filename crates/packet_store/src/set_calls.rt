@@ -1,5 +1,5 @@
 // The calls on sets that may add some, under C names.
-ghost use Rattle.judging.specs.Memory.{memories};
+ghost use Rattle.store_check.specs.Memory.{memories};
 ghost use Rattle.store.specs.Calls.{set-call, step};
 ghost use Rattle.store.specs.declared.set_calls.SetCall.the-variants.{Mk, Zero, One, Union, Intersect, Xor, Difference, Test, Ifelse};
 ghost use Rattle.packing.specs.Returns.{Answers};

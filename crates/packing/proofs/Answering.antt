@@ -2,20 +2,20 @@
 use mathlib.Core.Path.{_≡_, ap, _∙_}
 use mathlib.Core.List.{List}
 use Prim.Native.Nat.{ℕ}
-use Rattle.judging.specs.Memory.{Memories}
-use Rattle.outcomes.specs.Outcome.{Told, told}
-use Rattle.outcomes.specs.Promise.{Meets}
+use Rattle.store_check.specs.Memory.{Memories}
+use Rattle.call_rules.specs.Outcome.{Outcome, outcome}
+use Rattle.call_rules.specs.Promise.{Meets}
 use Rattle.packing.specs.Returns.{Returns}
 
-module _ {A : Type 0} (pack : A → ℕ) (out : Told A Memories) (M′ : Memories) (w w′ : List ℕ) (a : A) (r : ℕ) where
+module _ {A : Type 0} (pack : A → ℕ) (out : Outcome A Memories) (M′ : Memories) (w w′ : List ℕ) (a : A) (r : ℕ) where
   pub answers : Meets out M′ w w′ a → r ≡ pack a → Returns pack out M′ w w′ r
   answers says is = record {
-    answer = is ∙ ap (λ (t : Told A Memories). pack (t .answer)) (says .0);
-    state = ap (λ (t : Told A Memories). t .state) (says .0);
+    answer = is ∙ ap (λ (t : Outcome A Memories). pack (t .answer)) (says .0);
+    state = ap (λ (t : Outcome A Memories). t .state) (says .0);
     zeros = says .1;
   }
 
 -- and back: a call under a C name is a call that meets its promise, its answer packed
-pub meets : {A : Type 0} {pack : A → ℕ} {out : Told A Memories} {M′ : Memories} {w w′ : List ℕ} {r : ℕ}
+pub meets : {A : Type 0} {pack : A → ℕ} {out : Outcome A Memories} {M′ : Memories} {w w′ : List ℕ} {r : ℕ}
     → Returns pack out M′ w w′ r → Meets out M′ w w′ (out .answer) × (r ≡ pack (out .answer))
-meets {out = out} R = ((λ i. told (out .answer) (R .state i), R .zeros), R .answer)
+meets {out = out} R = ((λ i. outcome (out .answer) (R .state i), R .zeros), R .answer)

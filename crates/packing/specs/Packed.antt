@@ -2,9 +2,9 @@
 use mathlib.Core.List.{List}
 use Prim.Native.Nat.{ℕ, _+_, _*_, _^_}
 use lib.ListN.{getD, set as put}
-use Rattle.outcomes.specs.Answers.{refusal, values}
-use Rattle.outcomes.specs.declared.Answer.{Answer}
-use Rattle.outcomes.specs.declared.Answer.the-variants.{Handle, Truth, SetNode, RelationNode, Declined}
+use Rattle.call_rules.specs.Answers.{refusal, values}
+use Rattle.call_rules.specs.declared.Answer.{Answer}
+use Rattle.call_rules.specs.declared.Answer.the-variants.{Handle, Truth, SetNode, RelationNode, Declined}
 
 -- the refusal's number in the high half, the first value in the low half, 0 where there is none
 abbrev pub halves : ℕ → List ℕ → ℕ

@@ -3,17 +3,17 @@ use mathlib.Core.Path.{_≡_}
 use mathlib.Core.List.{List}
 use Prim.Native.Nat.{ℕ}
 use lib.ListN.{length, replicate}
-use Rattle.judging.specs.Memory.{Memories}
-use Rattle.outcomes.specs.Outcome.{Told}
-use Rattle.outcomes.specs.declared.Answer.{Answer}
+use Rattle.store_check.specs.Memory.{Memories}
+use Rattle.call_rules.specs.Outcome.{Outcome}
+use Rattle.call_rules.specs.declared.Answer.{Answer}
 use Rattle.packing.specs.Packed.{packed}
 
--- r, the memories and the working memory after a call that comes to `out`, whose answers `pack` makes numbers
-pub record Returns {A : Type 0} (pack : A → ℕ) (out : Told A Memories) (M′ : Memories) (w w′ : List ℕ) (r : ℕ) : Type 0 where
+-- r, the memories and the working memory after a call whose outcome is `out` and whose answers `pack` makes numbers
+pub record Returns {A : Type 0} (pack : A → ℕ) (out : Outcome A Memories) (M′ : Memories) (w w′ : List ℕ) (r : ℕ) : Type 0 where
   pub answer : r ≡ pack (out .answer)
   pub state : M′ ≡ out .state
   pub zeros : w′ ≡ replicate (length w) 0
 
 -- the same of a call with the answers that `pack` packs
-abbrev pub Answers : Told Answer Memories → Memories → List ℕ → List ℕ → ℕ → Type 0
+abbrev pub Answers : Outcome Answer Memories → Memories → List ℕ → List ℕ → ℕ → Type 0
 Answers out M′ w w′ r = Returns packed out M′ w w′ r

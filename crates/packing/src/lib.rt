@@ -3,48 +3,48 @@ ghost use mathlib.Core.Path.{_≡_};
 ghost use Rattle.packing.specs.Packed.{packed, filled-set, filled-relation};
 
 // The number of the refusal in the high half, or 0; the first value in the low half, or 0.
-pub fn pack(a: outcomes::Answer) -> u64
+pub fn pack(a: call_rules::Answer) -> u64
     ensures { λ r. ⌜ r ≡ packed a ⌝ }
 {
     match a {
-        outcomes::Answer::Handle(h) => h as u64,
-        outcomes::Answer::Truth(b) => if b { 1 } else { 0 },
-        outcomes::Answer::SetNode(x0, _) => x0 as u64,
-        outcomes::Answer::RelationNode(x00, _, _, _) => x00 as u64,
-        outcomes::Answer::Declined(r) => outcomes::number_of(r) as u64 * 0x1_0000_0000,
+        call_rules::Answer::Handle(h) => h as u64,
+        call_rules::Answer::Truth(b) => if b { 1 } else { 0 },
+        call_rules::Answer::SetNode(x0, _) => x0 as u64,
+        call_rules::Answer::RelationNode(x00, _, _, _) => x00 as u64,
+        call_rules::Answer::Declined(r) => call_rules::number_of(r) as u64 * 0x1_0000_0000,
     }
 }
 
 // The children of a set, where the answer has them; else the two numbers stay.
-pub fn fill_set(a: outcomes::Answer, children: &mut [u32; 2])
+pub fn fill_set(a: call_rules::Answer, children: &mut [u32; 2])
     ensures { λ _. ⌜ now (children .exit) ≡ filled-set a (now (children .entry)) ⌝ }
 {
     match a {
-        outcomes::Answer::Handle(_) => {}
-        outcomes::Answer::Truth(_) => {}
-        outcomes::Answer::SetNode(x0, x1) => {
+        call_rules::Answer::Handle(_) => {}
+        call_rules::Answer::Truth(_) => {}
+        call_rules::Answer::SetNode(x0, x1) => {
             children[0] = x0;
             children[1] = x1;
         }
-        outcomes::Answer::RelationNode(_, _, _, _) => {}
-        outcomes::Answer::Declined(_) => {}
+        call_rules::Answer::RelationNode(_, _, _, _) => {}
+        call_rules::Answer::Declined(_) => {}
     }
 }
 
 // The children of a relation, where the answer has them; else the four numbers stay.
-pub fn fill_relation(a: outcomes::Answer, children: &mut [u32; 4])
+pub fn fill_relation(a: call_rules::Answer, children: &mut [u32; 4])
     ensures { λ _. ⌜ now (children .exit) ≡ filled-relation a (now (children .entry)) ⌝ }
 {
     match a {
-        outcomes::Answer::Handle(_) => {}
-        outcomes::Answer::Truth(_) => {}
-        outcomes::Answer::SetNode(_, _) => {}
-        outcomes::Answer::RelationNode(x00, x01, x10, x11) => {
+        call_rules::Answer::Handle(_) => {}
+        call_rules::Answer::Truth(_) => {}
+        call_rules::Answer::SetNode(_, _) => {}
+        call_rules::Answer::RelationNode(x00, x01, x10, x11) => {
             children[0] = x00;
             children[1] = x01;
             children[2] = x10;
             children[3] = x11;
         }
-        outcomes::Answer::Declined(_) => {}
+        call_rules::Answer::Declined(_) => {}
     }
 }

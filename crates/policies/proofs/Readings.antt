@@ -3,14 +3,14 @@ use mathlib.Core.Path.{_≡_, refl, _∙_, subst}
 use mathlib.Core.Bool.{true}
 use mathlib.Core.List.{List}
 use Prim.Native.Nat.{ℕ}
-use Rattle.judging.specs.Memory.{Memories, fields, decode}
-use Rattle.judging.specs.Valid.{IsStore}
-use Rattle.outcomes.specs.Outcome.{gives, Told}
-use Rattle.texts.specs.XForms.{x-forms}
-use Rattle.texts.specs.Answers.{reading-refusal, reading-values}
-use Rattle.texts.specs.Reading.{reading}
-use Rattle.texts.specs.declared.Reading.{Reading}
-use Rattle.texts.specs.declared.Reading.the-variants.{Policy, NotPolicy, TooDeep, NoField, NotPredicate}
+use Rattle.store_check.specs.Memory.{Memories, fields, decode}
+use Rattle.store_check.specs.Valid.{IsStore}
+use Rattle.call_rules.specs.Outcome.{gives, Outcome}
+use Rattle.policy_text.specs.XForms.{x-forms}
+use Rattle.policy_text.specs.Answers.{reading-refusal, reading-values}
+use Rattle.policy_text.specs.Reading.{reading}
+use Rattle.policy_text.specs.declared.Reading.{Reading}
+use Rattle.policy_text.specs.declared.Reading.the-variants.{Policy, NotPolicy, TooDeep, NoField, NotPredicate}
 use Rattle.policies.specs.Answers.{policy-refusal, policy-values}
 use Rattle.policies.specs.Outcome.{of-reading, short?, policy-step}
 use Rattle.policies.specs.declared.PolicyAnswer.{PolicyAnswer}
@@ -34,4 +34,4 @@ pub reading-told : (t : List ℕ) (M : Memories) → IsStore M → short? t ≡ 
 reading-told t M s h r e n =
     let w = refusal-told (fields M) t r n in
     let f = policy-refused t M s (w .0) (short-verdict (fields M) t (decode M) r h e ∙ w .1) in
-    subst (λ (x : Told PolicyAnswer Memories). Carries r (x .answer) × (x .state ≡ M)) f (w .2, refl)
+    subst (λ (x : Outcome PolicyAnswer Memories). Carries r (x .answer) × (x .state ≡ M)) f (w .2, refl)

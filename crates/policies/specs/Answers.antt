@@ -1,7 +1,7 @@
 -- Document 01's number and values for every case of a policy's answer.
 use mathlib.Core.List.{List, [], _∷_}
 use Prim.Native.Nat.{ℕ}
-use Rattle.outcomes.specs.Answers.{number}
+use Rattle.call_rules.specs.Answers.{refusal-number}
 use Rattle.policies.specs.declared.Fault.{Fault}
 use Rattle.policies.specs.declared.Fault.the-variants.{NotPolicy, NotPredicate, TooDeep, NoField}
 use Rattle.policies.specs.declared.PolicyAnswer.{PolicyAnswer}
@@ -18,7 +18,7 @@ fault-number NoField = 5
 
 abbrev pub policy-number : PolicyRefusal → ℕ
 policy-number (At f i) = fault-number f
-policy-number (Store r) = number r
+policy-number (Store r) = refusal-number r
 
 -- the refusal's number, or 0
 abbrev pub policy-refusal : PolicyAnswer → ℕ

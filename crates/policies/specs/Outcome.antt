@@ -1,22 +1,22 @@
--- What a policy call comes to, in document 01's order of refusals.
+-- The outcome of a policy call, in document 01's order of refusals.
 use mathlib.Core.Bool.{Bool}
 use mathlib.Core.List.{List}
 use Prim.Native.Nat.{ℕ}
 use lib.Dec.{leb}
 use lib.ListN.{length}
-use Rattle.nodes.specs.Policies.{policy-program}
-use Rattle.nodes.specs.Programs.{Ran}
-use Rattle.nodes.specs.Store.{Store as Nodes, pick}
-use Rattle.judging.specs.Memory.{Memories}
-use Rattle.outcomes.specs.OnMemories.{on-store}
-use Rattle.outcomes.specs.Outcome.{Verdict, gives, runs, Told}
-use Rattle.outcomes.specs.declared.Refusal.{Refusal}
-use Rattle.outcomes.specs.declared.Refusal.the-variants.{TooLong}
-use Rattle.texts.specs.XForms.{x-forms}
-use Rattle.texts.specs.Answers.{tree}
-use Rattle.texts.specs.Reading.{reading}
-use Rattle.texts.specs.declared.Reading.{Reading}
-use Rattle.texts.specs.declared.Reading.the-variants as read
+use Rattle.model.specs.Policies.{policy-program}
+use Rattle.model.specs.Programs.{Ran}
+use Rattle.model.specs.Store.{Store as Nodes, pick}
+use Rattle.store_check.specs.Memory.{Memories}
+use Rattle.call_rules.specs.OnMemories.{on-store}
+use Rattle.call_rules.specs.Outcome.{Verdict, gives, runs, Outcome}
+use Rattle.call_rules.specs.declared.Refusal.{Refusal}
+use Rattle.call_rules.specs.declared.Refusal.the-variants.{TooLong}
+use Rattle.policy_text.specs.XForms.{x-forms}
+use Rattle.policy_text.specs.Answers.{tree}
+use Rattle.policy_text.specs.Reading.{reading}
+use Rattle.policy_text.specs.declared.Reading.{Reading}
+use Rattle.policy_text.specs.declared.Reading.the-variants as read
 use Rattle.policies.specs.declared.Fault.the-variants.{NotPolicy, NotPredicate, TooDeep, NoField}
 use Rattle.policies.specs.declared.PolicyAnswer.{PolicyAnswer}
 use Rattle.policies.specs.declared.PolicyAnswer.the-variants.{Handle, Declined}
@@ -46,5 +46,5 @@ unfoldable pub text-verdict : List ℕ → ℕ → Nodes → Verdict PolicyAnswe
 text-verdict t k S = pick (short? t) (of-reading k t (reading x-forms k t)) (gives (refused TooLong))
 
 -- the answer of a policy call on two memories, and the memories after it
-unfoldable pub policy-step : List ℕ → Memories → Told PolicyAnswer Memories
+unfoldable pub policy-step : List ℕ → Memories → Outcome PolicyAnswer Memories
 policy-step t M = on-store refused (text-verdict t) M

@@ -1,17 +1,17 @@
 // The public policy call: a NetKAT text read and built on two lent memories.
 ghost use mathlib.Core.Path.{_≡_};
 ghost use mathlib.Core.Bool.{true};
-ghost use Rattle.nodes.specs.Store.{rel};
-ghost use Rattle.judging.specs.Memory.{memories, fields};
-ghost use Rattle.outcomes.specs.Checking.{Accepted};
-ghost use Rattle.outcomes.specs.Outcome.{told};
-ghost use Rattle.outcomes.specs.Promise.{Meets};
-ghost use Rattle.texts.specs.XForms.{x-forms};
-ghost use Rattle.texts.specs.Reading.{reading};
-ghost use Rattle.texts.specs.declared.Reading.the-variants.{Policy};
+ghost use Rattle.model.specs.Store.{rel};
+ghost use Rattle.store_check.specs.Memory.{memories, fields};
+ghost use Rattle.call_rules.specs.Checking.{CheckedStore};
+ghost use Rattle.call_rules.specs.Outcome.{outcome};
+ghost use Rattle.call_rules.specs.Promise.{Meets};
+ghost use Rattle.policy_text.specs.XForms.{x-forms};
+ghost use Rattle.policy_text.specs.Reading.{reading};
+ghost use Rattle.policy_text.specs.declared.Reading.the-variants.{Policy};
 ghost use Rattle.policies.specs.Answers.{fault-number};
 ghost use Rattle.policies.specs.Outcome.{policy-step, short?};
-use judging::head::*;
+use store_check::head::*;
 
 // What is wrong at a place in a text.
 pub enum Fault {
@@ -24,7 +24,7 @@ pub enum Fault {
 // Why a policy is declined: a fault and its offset in the text, or the store's own refusal.
 pub enum PolicyRefusal {
     At(Fault, usize),
-    Store(outcomes::Refusal),
+    Store(call_rules::Refusal),
 }
 
 // What a policy call answers.
@@ -47,51 +47,57 @@ pub fn fault_number(f: Fault) -> u32
 
 // A text within the rules: it is built, and its nodes are kept where they fit.
 fn built(relations: &mut [u32], sets: &[u32], work: &mut [u32], text: &[u8]) -> PolicyAnswer
-    requires { ⌜ Accepted rel (memories (now relations) (now sets)) (now work)
+    requires { ⌜ CheckedStore rel (memories (now relations) (now sets)) (now work)
         × (short? (now text) ≡ true) × (reading x-forms (fields (memories (now relations) (now sets))) (now text) ≡ Policy) ⌝ }
-    ensures { λ r. ⌜ told r (memories (now (relations .exit)) (now (sets .entry)))
+    ensures { λ r. ⌜ outcome r (memories (now (relations .exit)) (now (sets .entry)))
         ≡ policy-step (now (text .entry)) (memories (now (relations .entry)) (now (sets .entry))) ⌝ }
 {
     let k = relations[FIELDS];
-    let n = memory::wide(relations[RELATION_COUNT]);
-    let s = memory::Arena {
+    let n = memory::as_index(relations[RELATION_COUNT]);
+    let s = memory::RunState {
         ok: true,
         n: n,
         h: 0,
     };
-    let r = building::build(
+    let r = policy_build::build(
         text,
         &mut relations[RELATION_HEAD..],
         work,
         s,
-        memory::narrow(k),
+        memory::as_level(k),
     );
-    judging::commit::commit(relations, RELATION_COUNT, RELATION_HEAD, 4, n, r);
+    store_check::commit::commit(relations, RELATION_COUNT, RELATION_HEAD, 4, n, r);
     if r.ok {
         return PolicyAnswer::Handle(r.h);
     }
-    PolicyAnswer::Declined(PolicyRefusal::Store(outcomes::Refusal::UsedUp))
+    PolicyAnswer::Declined(PolicyRefusal::Store(call_rules::Refusal::UsedUp))
 }
 
 // Reads a text for a store, and builds it.
-fn judged(relations: &mut [u32], sets: &[u32], work: &mut [u32], text: &[u8]) -> PolicyAnswer
-    requires { ⌜ Accepted rel (memories (now relations) (now sets)) (now work) ⌝ }
-    ensures { λ r. ⌜ told r (memories (now (relations .exit)) (now (sets .entry)))
+fn run_checked(relations: &mut [u32], sets: &[u32], work: &mut [u32], text: &[u8]) -> PolicyAnswer
+    requires { ⌜ CheckedStore rel (memories (now relations) (now sets)) (now work) ⌝ }
+    ensures { λ r. ⌜ outcome r (memories (now (relations .exit)) (now (sets .entry)))
         ≡ policy-step (now (text .entry)) (memories (now (relations .entry)) (now (sets .entry))) ⌝ }
 {
     if text.len() > 4096 {
-        return PolicyAnswer::Declined(PolicyRefusal::Store(outcomes::Refusal::TooLong));
+        return PolicyAnswer::Declined(PolicyRefusal::Store(call_rules::Refusal::TooLong));
     }
-    let read = texts::read(text, relations[FIELDS]);
+    let read = policy_text::read(text, relations[FIELDS]);
     match read {
-        texts::Reading::Policy => built(relations, sets, work, text),
-        texts::Reading::NotPolicy(i) => PolicyAnswer::Declined(PolicyRefusal::At(
+        policy_text::Reading::Policy => built(relations, sets, work, text),
+        policy_text::Reading::NotPolicy(i) => PolicyAnswer::Declined(PolicyRefusal::At(
             Fault::NotPolicy,
             i,
         )),
-        texts::Reading::TooDeep(i) => PolicyAnswer::Declined(PolicyRefusal::At(Fault::TooDeep, i)),
-        texts::Reading::NoField(i) => PolicyAnswer::Declined(PolicyRefusal::At(Fault::NoField, i)),
-        texts::Reading::NotPredicate(i) => PolicyAnswer::Declined(PolicyRefusal::At(
+        policy_text::Reading::TooDeep(i) => PolicyAnswer::Declined(PolicyRefusal::At(
+            Fault::TooDeep,
+            i,
+        )),
+        policy_text::Reading::NoField(i) => PolicyAnswer::Declined(PolicyRefusal::At(
+            Fault::NoField,
+            i,
+        )),
+        policy_text::Reading::NotPredicate(i) => PolicyAnswer::Declined(PolicyRefusal::At(
             Fault::NotPredicate,
             i,
         )),
@@ -103,11 +109,11 @@ pub fn policy(relations: &mut [u32], sets: &[u32], work: &mut [u32], text: &[u8]
     ensures { λ r. ⌜ Meets (policy-step (now (text .entry)) (memories (now (relations .entry)) (now (sets .entry))))
         (memories (now (relations .exit)) (now (sets .entry))) (now (work .entry)) (now (work .exit)) r ⌝ }
 {
-    if !judging::is_store(relations, sets, work, false) {
-        nodes::clear(work);
-        return PolicyAnswer::Declined(PolicyRefusal::Store(outcomes::Refusal::NotStore));
+    if !store_check::is_store(relations, sets, work, false) {
+        memory::clear(work);
+        return PolicyAnswer::Declined(PolicyRefusal::Store(call_rules::Refusal::NotStore));
     }
-    let r = judged(relations, sets, work, text);
-    nodes::clear(work);
+    let r = run_checked(relations, sets, work, text);
+    memory::clear(work);
     r
 }

@@ -3,15 +3,15 @@ use mathlib.Core.Path.{_≡_}
 use mathlib.Core.List.{List}
 use mathlib.Core.Bool.{true}
 use Prim.Native.Nat.{ℕ, _-_, _<_}
-use Rattle.nodes.specs.Programs.{Prog}
-use Rattle.nodes.specs.Recursion.{Op1, node1, op1, Op2, node2, op2, four}
-use Rattle.nodes.specs.Store.{Kind, rel}
-use Rattle.nodes.proofs.Recursion.{node1-open, node2-open}
-use Rattle.memory.specs.Arena.{Condition, PerformsOn, StandsOn, Stands, Looks, Remembered}
+use Rattle.model.specs.Programs.{Prog}
+use Rattle.model.specs.Recursion.{Op1, node1, op1, Op2, node2, op2, four}
+use Rattle.model.specs.Store.{Kind, rel}
+use Rattle.model.proofs.Recursion.{node1-open, node2-open}
+use Rattle.memory.specs.Performing.{Condition, PerformsOn, ReducesOn, Reduces, ReadsChildren, Remembered}
 use Rattle.memory.specs.Memo.{memo-program}
 use Rattle.memory.proofs.Remembering.{called-kept}
 use Rattle.memory.proofs.Steps.{performs-then, begin, by, looked, called}
-use Rattle.memory.specs.declared.Arena.{Arena}
+use Rattle.memory.specs.declared.RunState.{RunState}
 
 -- an operation on one relation, on two
 abbrev pub on-one : (ℕ → ℕ → Prog → Prog) → (ℕ → (ℕ → Prog) → List ℕ → Prog) → Op1
@@ -21,19 +21,19 @@ abbrev pub on-two : (ℕ → ℕ → ℕ → (ℕ → ℕ → Prog) → Prog) �
 on-two short kids = record { first = rel; second = rel; short = short; kids = kids }
 
 module _ {m w : List ℕ} where
-  pub opened1 : (short : ℕ → ℕ → Prog → Prog) (kids : ℕ → (ℕ → Prog) → List ℕ → Prog) (l x : ℕ) {p : List ℕ} → (l ≡ 0 → ⊥) → Looks rel m x p
-      → Stands rel (node1 (on-one short kids) l x) (kids (l - 1) (op1 (on-one short kids) (l - 1)) p) m w
+  pub opened1 : (short : ℕ → ℕ → Prog → Prog) (kids : ℕ → (ℕ → Prog) → List ℕ → Prog) (l x : ℕ) {p : List ℕ} → (l ≡ 0 → ⊥) → ReadsChildren rel m x p
+      → Reduces rel (node1 (on-one short kids) l x) (kids (l - 1) (op1 (on-one short kids) (l - 1)) p) m w
   opened1 short kids l x h X = looked (by begin (node1-open (on-one short kids) l x h)) X
 
   pub opened2 : (short : ℕ → ℕ → ℕ → (ℕ → ℕ → Prog) → Prog) (kids : ℕ → (ℕ → ℕ → Prog) → List ℕ → List ℕ → Prog) (l x y : ℕ) {p q : List ℕ}
-      → (l ≡ 0 → ⊥) → Looks rel m x p → Looks rel m y q
-      → Stands rel (node2 (on-two short kids) l x y) (kids (l - 1) (op2 (on-two short kids) (l - 1)) p q) m w
+      → (l ≡ 0 → ⊥) → ReadsChildren rel m x p → ReadsChildren rel m y q
+      → Reduces rel (node2 (on-two short kids) l x y) (kids (l - 1) (op2 (on-two short kids) (l - 1)) p q) m w
   opened2 short kids l x y h X Y = looked (looked (by begin (node2-open (on-two short kids) l x y h)) X) Y
 
 -- four calls in order, then f of their handles, and the memo keeps the answer
-pub four-returns : {Q : Condition} {K : Kind} {p n q0 q1 q2 q3 : Prog} {f : ℕ → ℕ → ℕ → ℕ → Prog} {s r0 r1 r2 r3 r q : Arena}
+pub four-returns : {Q : Condition} {K : Kind} {p n q0 q1 q2 q3 : Prog} {f : ℕ → ℕ → ℕ → ℕ → Prog} {s r0 r1 r2 r3 r q : RunState}
     {m m0 m1 m2 m3 m4 w w0 w1 w2 w3 w4 w5 : List ℕ} (op l x y : ℕ) → s .ok ≡ true → l < 256 → n ≡ memo-program op l x y
-    → StandsOn Q K p n m w → StandsOn Q K n (four q0 q1 q2 q3 f) m w
+    → ReducesOn Q K p n m w → ReducesOn Q K n (four q0 q1 q2 q3 f) m w
     → PerformsOn Q K q0 s m m0 w w0 r0 → PerformsOn Q K q1 r0 m0 m1 w0 w1 r1 → PerformsOn Q K q2 r1 m1 m2 w1 w2 r2 → PerformsOn Q K q3 r2 m2 m3 w2 w3 r3
     → PerformsOn Q K (f (r0 .h) (r1 .h) (r2 .h) (r3 .h)) r3 m3 m4 w3 w4 r → (q ≡ r) × Remembered r op l x y w4 w5 → PerformsOn Q K p s m m4 w w5 q
 four-returns op l x y ok b e u o d0 d1 d2 d3 d k =

@@ -1,6 +1,6 @@
 pub mod Nodes
 pub mod Opened
-pub mod Ways
+pub mod ShortcutLaws
 pub mod Children
 pub mod Copied
 pub mod Naming

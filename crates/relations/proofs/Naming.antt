@@ -6,10 +6,10 @@ use Prim.Native.Nat.{ℕ, zero, suc, _-_}
 use native.Mathlib.Omega.{arith}
 use lib.Dec.{eqb}
 use borrow.Author.Tests.{eq-eqb, ne-eqb}
-use Rattle.nodes.specs.Operations.{fields, test, assign}
-use Rattle.nodes.specs.Programs.{ret, mk, _>>=_}
-use Rattle.nodes.specs.Store.{rel, pick}
-use Rattle.memory.specs.Memo.{memo-program}
+use Rattle.model.specs.Operations.{fields, test, assign}
+use Rattle.model.specs.Programs.{ret, mk, _>>=_}
+use Rattle.model.specs.Store.{rel, pick}
+use Rattle.memory.specs.Memo.{memo-program, op-test, op-assign}
 use Rattle.relations.specs.Fields.{field-node}
 
 module _ (at : ℕ → ℕ → List ℕ) (v n res z : ℕ) where
@@ -34,10 +34,10 @@ module _ (i v : ℕ) where
   elsewhere x y h j = mk rel (pick (ne-eqb i v h j) x y)
 
 -- in the memo the value is a number that is 1 or not
-memo-at : (a : Bool) (k v c : ℕ) → fields (field-node a (eqb c 1)) v k 1 0 ≡ memo-program (pick a 13 12) k v c
+memo-at : (a : Bool) (k v c : ℕ) → fields (field-node a (eqb c 1)) v k 1 0 ≡ memo-program (pick a op-assign op-test) k v c
 unfolding memo-program test assign
 memo-at true k v c = refl
 memo-at false k v c = refl
 
-pub fields-memo : (a b : Bool) (op k v c : ℕ) → op ≡ pick a 13 12 → eqb c 1 ≡ b → fields (field-node a b) v k 1 0 ≡ memo-program op k v c
+pub fields-memo : (a b : Bool) (op k v c : ℕ) → op ≡ pick a op-assign op-test → eqb c 1 ≡ b → fields (field-node a b) v k 1 0 ≡ memo-program op k v c
 fields-memo a b op k v c e f = ap (λ x. fields (field-node a x) v k 1 0) (sym f) ∙ memo-at a k v c ∙ ap (λ o. memo-program o k v c) (sym e)

@@ -4,16 +4,16 @@ use mathlib.Core.List.{List, [], _∷_}
 use Prim.Native.Nat.{ℕ, zero, suc, _-_}
 use native.Mathlib.Omega.{arith}
 use borrow.Author.Tests.{eq-eqb, ne-eqb}
-use Rattle.nodes.specs.Operations.{constant, identity-at-depth, is-zero, complement-op, complement, union-op, union, intersect-op, intersect}
-use Rattle.nodes.specs.Operations.{xor-tests, xor-op, xor, difference-op, difference}
-use Rattle.nodes.specs.Programs.{isEmpty, same, less, has, Prog, ret, ask, mk, _>>=_}
-use Rattle.nodes.specs.Recursion.{node1, op1, node2, op2}
-use Rattle.nodes.specs.Relations.{flip-op, flip}
-use Rattle.nodes.specs.Store.{rel}
-use Rattle.memory.specs.Arena.{Stands}
-use Rattle.memory.specs.Memo.{memo-program}
+use Rattle.model.specs.Operations.{constant, identity-at-depth, is-zero, complement-op, complement, union-op, union, intersect-op, intersect}
+use Rattle.model.specs.Operations.{xor-tests, xor-op, xor, difference-op, difference}
+use Rattle.model.specs.Programs.{isEmpty, same, less, has, Prog, ret, ask, mk, _>>=_}
+use Rattle.model.specs.Recursion.{node1, op1, node2, op2}
+use Rattle.model.specs.Relations.{flip-op, flip}
+use Rattle.model.specs.Store.{rel}
+use Rattle.memory.specs.Performing.{Reduces}
+use Rattle.memory.specs.Memo.{memo-program, op-union, op-intersect, op-xor, op-difference, op-complement, op-flip, op-constant, op-identity}
 use Rattle.memory.proofs.Steps.{begin, by, yes, no, same-says}
-use Rattle.relations.specs.Ways.{lattice-tests, difference-tests}
+use Rattle.relations.specs.Shortcuts.{lattice-tests, difference-tests}
 
 pub identity-zero : (l : ℕ) → l ≡ 0 → identity-at-depth l ≡ ret 1
 unfolding identity-at-depth
@@ -45,45 +45,45 @@ module _ (l a b : ℕ) where
   unfolding difference op2
   difference-is = refl
 
-  pub union-memo : node2 (union-op rel) l a b ≡ memo-program 4 l a b
+  pub union-memo : node2 (union-op rel) l a b ≡ memo-program op-union l a b
   unfolding memo-program
   union-memo = refl
 
-  pub intersect-memo : node2 intersect-op l a b ≡ memo-program 5 l a b
+  pub intersect-memo : node2 intersect-op l a b ≡ memo-program op-intersect l a b
   unfolding memo-program
   intersect-memo = refl
 
-  pub xor-memo : node2 (xor-op rel) l a b ≡ memo-program 6 l a b
+  pub xor-memo : node2 (xor-op rel) l a b ≡ memo-program op-xor l a b
   unfolding memo-program
   xor-memo = refl
 
-  pub difference-memo : node2 difference-op l a b ≡ memo-program 7 l a b
+  pub difference-memo : node2 difference-op l a b ≡ memo-program op-difference l a b
   unfolding memo-program
   difference-memo = refl
 
   -- the memo's second operand says nothing of an operation on one
-  pub complement-memo : node1 complement-op l a ≡ memo-program 8 l a b
+  pub complement-memo : node1 complement-op l a ≡ memo-program op-complement l a b
   unfolding memo-program
   complement-memo = refl
 
-  pub flip-memo : node1 flip-op l a ≡ memo-program 11 l a b
+  pub flip-memo : node1 flip-op l a ≡ memo-program op-flip l a b
   unfolding memo-program
   flip-memo = refl
 
-  pub constant-memo : constant rel a l ≡ memo-program 21 l a b
+  pub constant-memo : constant rel a l ≡ memo-program op-constant l a b
   unfolding memo-program
   constant-memo = refl
 
-  pub identity-memo : identity-at-depth l ≡ memo-program 22 l a b
+  pub identity-memo : identity-at-depth l ≡ memo-program op-identity l a b
   unfolding memo-program
   identity-memo = refl
 
 -- the test on equal operands answers, or not
 module _ {p q q′ : Prog} {a b : ℕ} {m w : List ℕ} (e : p ≡ ask (same a b) q q′) where
-  pub equal : a ≡ b → Stands rel p q m w
+  pub equal : a ≡ b → Reduces rel p q m w
   equal h = yes (by begin e) (same-says (eq-eqb a b h))
 
-  pub differ : (a ≡ b → ⊥) → Stands rel p q′ m w
+  pub differ : (a ≡ b → ⊥) → Reduces rel p q′ m w
   differ h = no (by begin e) (same-says (ne-eqb a b h))
 
 -- OPERATIONS on one

@@ -2,7 +2,7 @@
 use mathlib.Core.List.{List}
 use mathlib.Core.Bool.{Bool, true, false}
 use Prim.Native.Nat.{ℕ}
-use Rattle.nodes.specs.Operations.{test-node, assign-node}
+use Rattle.model.specs.Operations.{test-node, assign-node}
 
 abbrev pub field-node : Bool → Bool → ℕ → ℕ → List ℕ
 field-node true b res z = assign-node b res z

@@ -4,22 +4,22 @@ ghost use mathlib.Core.List.{List, [], _∷_};
 ghost use mathlib.Core.Bool.{Bool, true, false};
 ghost use Prim.Native.Nat.{ℕ, _<_};
 ghost use lib.Dec.{eqb};
-ghost use Rattle.nodes.specs.Store.{rel, pick};
-ghost use Rattle.nodes.specs.Programs.{Prog};
-ghost use Rattle.nodes.specs.Operations.{fields, test, assign};
-ghost use Rattle.memory.specs.Arena.{Performs};
+ghost use Rattle.model.specs.Store.{rel, pick};
+ghost use Rattle.model.specs.Programs.{Prog};
+ghost use Rattle.model.specs.Operations.{fields, test, assign};
+ghost use Rattle.memory.specs.Performing.{Performs};
+ghost use Rattle.memory.specs.Memo.{op-test, op-assign};
 ghost use Rattle.relations.specs.Fields.{field-node};
 
-// The operations' numbers in the memo.
-const TEST: u32 = 12;
-
-const ASSIGN: u32 = 13;
-
 // The number of `assign` or of `test`.
-fn number(assigns: bool) -> u32
-    ensures { λ r. ⌜ (r ≡ pick assigns 13 12) × (0 < r) × (r < 16777216) ⌝ }
+fn memo_number(assigns: bool) -> u32
+    ensures { λ r. ⌜ (r ≡ pick assigns op-assign op-test) × (0 < r) × (r < 16777216) ⌝ }
 {
-    if assigns { ASSIGN } else { TEST }
+    if assigns {
+        memory::memo::ASSIGN
+    } else {
+        memory::memo::TEST
+    }
 }
 
 // A value as the memo keeps it.
@@ -33,14 +33,14 @@ fn bit(value: bool) -> u32
 fn field(
     nodes: &mut [u32],
     work: &mut [u32],
-    s: memory::Arena,
+    s: memory::RunState,
     i: u8,
     var: u8,
     assigns: bool,
     value: bool,
     res: u32,
     zero: u32,
-) -> memory::Arena
+) -> memory::RunState
     ensures { λ r. ⌜ Performs rel (Prog.mk rel (pick (eqb i var) (field-node assigns value res zero) (res ∷ zero ∷ zero ∷ res ∷ []))) s
         (now (nodes .entry)) (now (nodes .exit)) (now (work .entry)) (now (work .exit)) r ⌝ }
 {
@@ -63,19 +63,19 @@ fn field(
 fn fields(
     nodes: &mut [u32],
     work: &mut [u32],
-    s: memory::Arena,
+    s: memory::RunState,
     n: u8,
     var: u8,
     assigns: bool,
     value: bool,
     res: u32,
     zero: u32,
-) -> memory::Arena
+) -> memory::RunState
     ensures { λ r. ⌜ Performs rel (fields (field-node assigns value) var n res zero) s
         (now (nodes .entry)) (now (nodes .exit)) (now (work .entry)) (now (work .exit)) r ⌝ }
 {
     if n == 0 {
-        return memory::place::give(s, res);
+        return memory::insert::with_handle(s, res);
     }
     let i = n - 1;
     let r = field(nodes, work, s, i, var, assigns, value, res, zero);
@@ -87,24 +87,24 @@ fn fields(
 fn kept(
     nodes: &mut [u32],
     work: &mut [u32],
-    s: memory::Arena,
+    s: memory::RunState,
     k: u8,
     var: u8,
     assigns: bool,
     value: bool,
-) -> memory::Arena
+) -> memory::RunState
     ensures { λ r. ⌜ Performs rel (fields (field-node assigns value) var k 1 0) s
         (now (nodes .entry)) (now (nodes .exit)) (now (work .entry)) (now (work .exit)) r ⌝ }
 {
     if !s.ok {
         return s;
     }
-    let op = number(assigns);
+    let op = memo_number(assigns);
     let b = bit(value);
     let v = var as u32;
     let found = memory::memo::recall(work, op, k, v, b);
-    if let memory::Found::Answer(h) = found {
-        return memory::place::give(s, h);
+    if let memory::Lookup::Answer(h) = found {
+        return memory::insert::with_handle(s, h);
     }
     let r = fields(nodes, work, s, k, var, assigns, value, 1, 0);
     memory::memo::remember(work, r, op, k, v, b)
@@ -114,11 +114,11 @@ fn kept(
 pub fn test(
     nodes: &mut [u32],
     work: &mut [u32],
-    s: memory::Arena,
+    s: memory::RunState,
     k: u8,
     var: u8,
     value: bool,
-) -> memory::Arena
+) -> memory::RunState
     ensures { λ r. ⌜ Performs rel (test rel k var value) s (now (nodes .entry)) (now (nodes .exit)) (now (work .entry)) (now (work .exit)) r ⌝ }
 {
     kept(nodes, work, s, k, var, false, value)
@@ -128,11 +128,11 @@ pub fn test(
 pub fn assign(
     nodes: &mut [u32],
     work: &mut [u32],
-    s: memory::Arena,
+    s: memory::RunState,
     k: u8,
     var: u8,
     value: bool,
-) -> memory::Arena
+) -> memory::RunState
     ensures { λ r. ⌜ Performs rel (assign k var value) s (now (nodes .entry)) (now (nodes .exit)) (now (work .entry)) (now (work .exit)) r ⌝ }
 {
     kept(nodes, work, s, k, var, true, value)

@@ -2,32 +2,15 @@
 ghost use mathlib.Core.Path.{_≡_};
 ghost use mathlib.Core.List.{[], _∷_};
 ghost use Prim.Native.Nat.{_≤_};
-ghost use Rattle.nodes.specs.Store.{rel};
-ghost use Rattle.nodes.specs.Programs.{Prog};
-ghost use Rattle.nodes.specs.Operations.{constant, identity-at-depth, is-zero, complement, union, intersect, xor, difference};
-ghost use Rattle.nodes.specs.Relations.{flip};
-ghost use Rattle.memory.specs.Arena.{Performs, Looks};
+ghost use Rattle.model.specs.Store.{rel};
+ghost use Rattle.model.specs.Programs.{Prog};
+ghost use Rattle.model.specs.Operations.{constant, identity-at-depth, is-zero, complement, union, intersect, xor, difference};
+ghost use Rattle.model.specs.Relations.{flip};
+ghost use Rattle.memory.specs.Performing.{Performs, ReadsChildren};
 ghost use Rattle.memory.specs.Noting.{LevelIs};
 
 pub mod fields;
 pub mod shortcuts;
-
-// The operations' numbers in the memo.
-const UNION: u32 = 4;
-
-const INTERSECT: u32 = 5;
-
-const XOR: u32 = 6;
-
-const DIFFERENCE: u32 = 7;
-
-const COMPLEMENT: u32 = 8;
-
-const FLIP: u32 = 11;
-
-const CONSTANT: u32 = 21;
-
-const IDENTITY: u32 = 22;
 
 // A node: four children, the first digit for the input's field and the second for the output's.
 pub struct SPPnode {
@@ -37,21 +20,21 @@ pub struct SPPnode {
     pub x11: u32,
 }
 
-// What shortcuts know where another operation may answer: the answer, its operand, or on which operands the operation goes on.
-pub enum Way {
+// What shortcuts know where another operation may answer: the answer, the operand of that operation, or the operands to recurse on.
+pub enum Shortcut {
     Answer(u32),
-    Other(u32),
-    Operands(u32, u32),
+    Delegate(u32),
+    Recurse(u32, u32),
 }
 
 // The children of a handle; 0 where it has no node.
 pub fn get(nodes: &[u32], spp: u32) -> SPPnode
-    ensures { λ r. ⌜ Looks rel (now (nodes .entry)) spp (r .x00 ∷ r .x01 ∷ r .x10 ∷ r .x11 ∷ []) ⌝ }
+    ensures { λ r. ⌜ ReadsChildren rel (now (nodes .entry)) spp (r .x00 ∷ r .x01 ∷ r .x10 ∷ r .x11 ∷ []) ⌝ }
 {
-    let x00 = memory::words::child_of(nodes, 4, spp, 0);
-    let x01 = memory::words::child_of(nodes, 4, spp, 1);
-    let x10 = memory::words::child_of(nodes, 4, spp, 2);
-    let x11 = memory::words::child_of(nodes, 4, spp, 3);
+    let x00 = memory::property_words::child_of(nodes, 4, spp, 0);
+    let x01 = memory::property_words::child_of(nodes, 4, spp, 1);
+    let x10 = memory::property_words::child_of(nodes, 4, spp, 2);
+    let x11 = memory::property_words::child_of(nodes, 4, spp, 3);
     SPPnode {
         x00: x00,
         x01: x01,
@@ -64,17 +47,17 @@ pub fn get(nodes: &[u32], spp: u32) -> SPPnode
 pub fn mk(
     nodes: &mut [u32],
     work: &mut [u32],
-    s: memory::Arena,
+    s: memory::RunState,
     x00: u32,
     x01: u32,
     x10: u32,
     x11: u32,
-) -> memory::Arena
+) -> memory::RunState
     ensures { λ r. ⌜ Performs rel (Prog.mk rel (x00 ∷ x01 ∷ x10 ∷ x11 ∷ [])) s
         (now (nodes .entry)) (now (nodes .exit)) (now (work .entry)) (now (work .exit)) r ⌝ }
 {
-    let r = memory::four::join(nodes, work, s, x00, x01, x10, x11);
-    memory::Arena {
+    let r = memory::relation_node::join(nodes, work, s, x00, x01, x10, x11);
+    memory::RunState {
         ok: r.ok,
         n: r.n,
         h: r.h + 2,
@@ -85,40 +68,40 @@ pub fn mk(
 pub fn level(nodes: &[u32], k: u32, spp: u32) -> u32
     ensures { λ r. ⌜ LevelIs (now (nodes .entry)) 4 k spp r × (r ≤ k) ⌝ }
 {
-    memory::words::level(nodes, 4, k, spp)
+    memory::property_words::level(nodes, 4, k, spp)
 }
 
 // The relation of this level whose every walk ends at c.
 fn constant(
     nodes: &mut [u32],
     work: &mut [u32],
-    s: memory::Arena,
+    s: memory::RunState,
     level: u8,
     c: u32,
-) -> memory::Arena
+) -> memory::RunState
     ensures { λ r. ⌜ Performs rel (constant rel c level) s (now (nodes .entry)) (now (nodes .exit)) (now (work .entry)) (now (work .exit)) r ⌝ }
 {
     if !s.ok {
         return s;
     }
     if level == 0 {
-        return memory::place::give(s, c);
+        return memory::insert::with_handle(s, c);
     }
-    let found = memory::memo::recall(work, CONSTANT, level, c, 0);
-    if let memory::Found::Answer(h) = found {
-        return memory::place::give(s, h);
+    let found = memory::memo::recall(work, memory::memo::CONSTANT, level, c, 0);
+    if let memory::Lookup::Answer(h) = found {
+        return memory::insert::with_handle(s, h);
     }
     let z = constant(nodes, work, s, level - 1, c);
     let r = mk(nodes, work, z, z.h, z.h, z.h, z.h);
-    memory::memo::remember(work, r, CONSTANT, level, c, 0)
+    memory::memo::remember(work, r, memory::memo::CONSTANT, level, c, 0)
 }
 
 pub fn zero_at_depth(
     nodes: &mut [u32],
     work: &mut [u32],
-    s: memory::Arena,
+    s: memory::RunState,
     level: u8,
-) -> memory::Arena
+) -> memory::RunState
     ensures { λ r. ⌜ Performs rel (constant rel 0 level) s (now (nodes .entry)) (now (nodes .exit)) (now (work .entry)) (now (work .exit)) r ⌝ }
 {
     constant(nodes, work, s, level, 0)
@@ -128,33 +111,33 @@ pub fn zero_at_depth(
 pub fn one_at_depth(
     nodes: &mut [u32],
     work: &mut [u32],
-    s: memory::Arena,
+    s: memory::RunState,
     level: u8,
-) -> memory::Arena
+) -> memory::RunState
     ensures { λ r. ⌜ Performs rel (identity-at-depth level) s (now (nodes .entry)) (now (nodes .exit)) (now (work .entry)) (now (work .exit)) r ⌝ }
 {
     if !s.ok {
         return s;
     }
     if level == 0 {
-        return memory::place::give(s, 1);
+        return memory::insert::with_handle(s, 1);
     }
-    let found = memory::memo::recall(work, IDENTITY, level, 0, 0);
-    if let memory::Found::Answer(h) = found {
-        return memory::place::give(s, h);
+    let found = memory::memo::recall(work, memory::memo::IDENTITY, level, 0, 0);
+    if let memory::Lookup::Answer(h) = found {
+        return memory::insert::with_handle(s, h);
     }
     let one = one_at_depth(nodes, work, s, level - 1);
     let zero = zero_at_depth(nodes, work, one, level - 1);
     let r = mk(nodes, work, zero, one.h, zero.h, zero.h, one.h);
-    memory::memo::remember(work, r, IDENTITY, level, 0, 0)
+    memory::memo::remember(work, r, memory::memo::IDENTITY, level, 0, 0)
 }
 
 pub fn top_at_depth(
     nodes: &mut [u32],
     work: &mut [u32],
-    s: memory::Arena,
+    s: memory::RunState,
     level: u8,
-) -> memory::Arena
+) -> memory::RunState
     ensures { λ r. ⌜ Performs rel (constant rel 1 level) s (now (nodes .entry)) (now (nodes .exit)) (now (work .entry)) (now (work .exit)) r ⌝ }
 {
     constant(nodes, work, s, level, 1)
@@ -163,30 +146,40 @@ pub fn top_at_depth(
 pub fn union(
     nodes: &mut [u32],
     work: &mut [u32],
-    s: memory::Arena,
+    s: memory::RunState,
     level: u8,
     a: u32,
     b: u32,
-) -> memory::Arena
+) -> memory::RunState
     ensures { λ r. ⌜ Performs rel (union rel level a b) s (now (nodes .entry)) (now (nodes .exit)) (now (work .entry)) (now (work .exit)) r ⌝ }
 {
     // a copy, made field by field: what is read below was not just written in other parts (docs/DECISIONS.md, Speed)
-    let t = memory::place::give(s, s.h);
+    let t = memory::insert::with_handle(s, s.h);
     if !t.ok {
         return t;
     }
     if a == b {
-        return memory::place::give(t, a);
+        return memory::insert::with_handle(t, a);
     }
-    let pa = memory::words::relation_properties(nodes, work, level, a);
+    let pa = memory::property_words::relation_properties(nodes, work, level, a);
     if pa.empty {
-        return memory::place::give(t, b);
+        return memory::insert::with_handle(t, b);
     }
-    let pb = memory::words::relation_properties(nodes, work, level, b);
-    let found = crate::shortcuts::lattice_tests(work, UNION, level, pa, pb, a, b, b, a);
+    let pb = memory::property_words::relation_properties(nodes, work, level, b);
+    let found = crate::shortcuts::lattice_tests(
+        work,
+        memory::memo::UNION,
+        level,
+        pa,
+        pb,
+        a,
+        b,
+        b,
+        a,
+    );
     match found {
-        memory::Found::Answer(h) => memory::place::give(t, h),
-        memory::Found::Operands(x, y) => {
+        memory::Lookup::Answer(h) => memory::insert::with_handle(t, h),
+        memory::Lookup::Operands(x, y) => {
             if level == 0 {
                 return t;
             }
@@ -198,7 +191,7 @@ pub fn union(
             let r10 = union(nodes, work, r01, below, p.x10, q.x10);
             let r11 = union(nodes, work, r10, below, p.x11, q.x11);
             let r = mk(nodes, work, r11, r00.h, r01.h, r10.h, r11.h);
-            memory::memo::remember(work, r, UNION, level, x, y)
+            memory::memo::remember(work, r, memory::memo::UNION, level, x, y)
         }
     }
 }
@@ -206,28 +199,38 @@ pub fn union(
 pub fn intersect(
     nodes: &mut [u32],
     work: &mut [u32],
-    s: memory::Arena,
+    s: memory::RunState,
     level: u8,
     a: u32,
     b: u32,
-) -> memory::Arena
+) -> memory::RunState
     ensures { λ r. ⌜ Performs rel (intersect rel level a b) s (now (nodes .entry)) (now (nodes .exit)) (now (work .entry)) (now (work .exit)) r ⌝ }
 {
     if !s.ok {
         return s;
     }
     if a == b {
-        return memory::place::give(s, a);
+        return memory::insert::with_handle(s, a);
     }
-    let pa = memory::words::relation_properties(nodes, work, level, a);
+    let pa = memory::property_words::relation_properties(nodes, work, level, a);
     if pa.empty {
-        return memory::place::give(s, a);
+        return memory::insert::with_handle(s, a);
     }
-    let pb = memory::words::relation_properties(nodes, work, level, b);
-    let found = crate::shortcuts::lattice_tests(work, INTERSECT, level, pa, pb, a, b, a, b);
+    let pb = memory::property_words::relation_properties(nodes, work, level, b);
+    let found = crate::shortcuts::lattice_tests(
+        work,
+        memory::memo::INTERSECT,
+        level,
+        pa,
+        pb,
+        a,
+        b,
+        a,
+        b,
+    );
     match found {
-        memory::Found::Answer(h) => memory::place::give(s, h),
-        memory::Found::Operands(x, y) => {
+        memory::Lookup::Answer(h) => memory::insert::with_handle(s, h),
+        memory::Lookup::Operands(x, y) => {
             if level == 0 {
                 return s;
             }
@@ -239,7 +242,7 @@ pub fn intersect(
             let r10 = intersect(nodes, work, r01, below, p.x10, q.x10);
             let r11 = intersect(nodes, work, r10, below, p.x11, q.x11);
             let r = mk(nodes, work, r11, r00.h, r01.h, r10.h, r11.h);
-            memory::memo::remember(work, r, INTERSECT, level, x, y)
+            memory::memo::remember(work, r, memory::memo::INTERSECT, level, x, y)
         }
     }
 }
@@ -247,11 +250,11 @@ pub fn intersect(
 pub fn xor(
     nodes: &mut [u32],
     work: &mut [u32],
-    s: memory::Arena,
+    s: memory::RunState,
     level: u8,
     a: u32,
     b: u32,
-) -> memory::Arena
+) -> memory::RunState
     ensures { λ r. ⌜ Performs rel (xor rel level a b) s (now (nodes .entry)) (now (nodes .exit)) (now (work .entry)) (now (work .exit)) r ⌝ }
 {
     if !s.ok {
@@ -262,9 +265,9 @@ pub fn xor(
     }
     let found = crate::shortcuts::xor_tests(nodes, work, level, a, b);
     match found {
-        Way::Answer(h) => memory::place::give(s, h),
-        Way::Other(x) => complement(nodes, work, s, level, x),
-        Way::Operands(x, y) => {
+        Shortcut::Answer(h) => memory::insert::with_handle(s, h),
+        Shortcut::Delegate(x) => complement(nodes, work, s, level, x),
+        Shortcut::Recurse(x, y) => {
             if level == 0 {
                 return s;
             }
@@ -276,7 +279,7 @@ pub fn xor(
             let r10 = xor(nodes, work, r01, below, p.x10, q.x10);
             let r11 = xor(nodes, work, r10, below, p.x11, q.x11);
             let r = mk(nodes, work, r11, r00.h, r01.h, r10.h, r11.h);
-            memory::memo::remember(work, r, XOR, level, x, y)
+            memory::memo::remember(work, r, memory::memo::XOR, level, x, y)
         }
     }
 }
@@ -284,11 +287,11 @@ pub fn xor(
 pub fn difference(
     nodes: &mut [u32],
     work: &mut [u32],
-    s: memory::Arena,
+    s: memory::RunState,
     level: u8,
     a: u32,
     b: u32,
-) -> memory::Arena
+) -> memory::RunState
     ensures { λ r. ⌜ Performs rel (difference rel level a b) s (now (nodes .entry)) (now (nodes .exit)) (now (work .entry)) (now (work .exit)) r ⌝ }
 {
     if !s.ok {
@@ -299,9 +302,9 @@ pub fn difference(
     }
     let found = crate::shortcuts::difference_tests(nodes, work, level, a, b);
     match found {
-        Way::Answer(h) => memory::place::give(s, h),
-        Way::Other(x) => complement(nodes, work, s, level, x),
-        Way::Operands(x, y) => {
+        Shortcut::Answer(h) => memory::insert::with_handle(s, h),
+        Shortcut::Delegate(x) => complement(nodes, work, s, level, x),
+        Shortcut::Recurse(x, y) => {
             if level == 0 {
                 return s;
             }
@@ -313,7 +316,7 @@ pub fn difference(
             let r10 = difference(nodes, work, r01, below, p.x10, q.x10);
             let r11 = difference(nodes, work, r10, below, p.x11, q.x11);
             let r = mk(nodes, work, r11, r00.h, r01.h, r10.h, r11.h);
-            memory::memo::remember(work, r, DIFFERENCE, level, x, y)
+            memory::memo::remember(work, r, memory::memo::DIFFERENCE, level, x, y)
         }
     }
 }
@@ -321,21 +324,21 @@ pub fn difference(
 pub fn complement(
     nodes: &mut [u32],
     work: &mut [u32],
-    s: memory::Arena,
+    s: memory::RunState,
     level: u8,
     a: u32,
-) -> memory::Arena
+) -> memory::RunState
     ensures { λ r. ⌜ Performs rel (complement rel level a) s (now (nodes .entry)) (now (nodes .exit)) (now (work .entry)) (now (work .exit)) r ⌝ }
 {
     if !s.ok {
         return s;
     }
     if a < 2 {
-        return memory::place::give(s, 1 - a);
+        return memory::insert::with_handle(s, 1 - a);
     }
-    let found = memory::memo::recall(work, COMPLEMENT, level, a, 0);
-    if let memory::Found::Answer(h) = found {
-        return memory::place::give(s, h);
+    let found = memory::memo::recall(work, memory::memo::COMPLEMENT, level, a, 0);
+    if let memory::Lookup::Answer(h) = found {
+        return memory::insert::with_handle(s, h);
     }
     if level == 0 {
         return s;
@@ -347,41 +350,47 @@ pub fn complement(
     let r10 = complement(nodes, work, r01, below, p.x10);
     let r11 = complement(nodes, work, r10, below, p.x11);
     let r = mk(nodes, work, r11, r00.h, r01.h, r10.h, r11.h);
-    memory::memo::remember(work, r, COMPLEMENT, level, a, 0)
+    memory::memo::remember(work, r, memory::memo::COMPLEMENT, level, a, 0)
 }
 
 // Whether a relation of this level is empty, 1 or 0.
-pub fn is_zero(nodes: &[u32], work: &[u32], s: memory::Arena, level: u8, a: u32) -> memory::Arena
+pub fn is_zero(
+    nodes: &[u32],
+    work: &[u32],
+    s: memory::RunState,
+    level: u8,
+    a: u32,
+) -> memory::RunState
     ensures { λ r. ⌜ Performs rel (is-zero rel level a) s (now (nodes .entry)) (now (nodes .entry)) (now (work .entry)) (now (work .entry)) r ⌝ }
 {
     if !s.ok {
         return s;
     }
-    let p = memory::words::relation_properties(nodes, work, level, a);
+    let p = memory::property_words::relation_properties(nodes, work, level, a);
     if p.empty {
-        return memory::place::give(s, 1);
+        return memory::insert::with_handle(s, 1);
     }
-    memory::place::give(s, 0)
+    memory::insert::with_handle(s, 0)
 }
 
 pub fn flip(
     nodes: &mut [u32],
     work: &mut [u32],
-    s: memory::Arena,
+    s: memory::RunState,
     level: u8,
     a: u32,
-) -> memory::Arena
+) -> memory::RunState
     ensures { λ r. ⌜ Performs rel (flip level a) s (now (nodes .entry)) (now (nodes .exit)) (now (work .entry)) (now (work .exit)) r ⌝ }
 {
     if !s.ok {
         return s;
     }
     if a < 2 {
-        return memory::place::give(s, a);
+        return memory::insert::with_handle(s, a);
     }
-    let found = memory::memo::recall(work, FLIP, level, a, 0);
-    if let memory::Found::Answer(h) = found {
-        return memory::place::give(s, h);
+    let found = memory::memo::recall(work, memory::memo::FLIP, level, a, 0);
+    if let memory::Lookup::Answer(h) = found {
+        return memory::insert::with_handle(s, h);
     }
     if level == 0 {
         return s;
@@ -393,5 +402,5 @@ pub fn flip(
     let f10 = flip(nodes, work, f01, below, p.x10);
     let f11 = flip(nodes, work, f10, below, p.x11);
     let r = mk(nodes, work, f11, f00.h, f10.h, f01.h, f11.h);
-    memory::memo::remember(work, r, FLIP, level, a, 0)
+    memory::memo::remember(work, r, memory::memo::FLIP, level, a, 0)
 }

@@ -2,19 +2,19 @@
 ghost use mathlib.Core.Path.{_≡_};
 ghost use mathlib.Core.List.{List};
 ghost use Prim.Native.Nat.{ℕ, _<_};
-ghost use Rattle.nodes.specs.Store.{rel};
-ghost use Rattle.nodes.specs.Programs.{Prog, less, ask};
-ghost use Rattle.nodes.specs.Recursion.{node2};
-ghost use Rattle.nodes.specs.Operations.{complement, xor-op, xor-tests, difference-op};
-ghost use Rattle.memory.specs.Arena.{Answers, Tells};
+ghost use Rattle.model.specs.Store.{rel};
+ghost use Rattle.model.specs.Programs.{Prog, less, ask};
+ghost use Rattle.model.specs.Recursion.{node2};
+ghost use Rattle.model.specs.Operations.{complement, xor-op, xor-tests, difference-op};
+ghost use Rattle.memory.specs.Performing.{LooksUp, KnowsProperties};
 ghost use Rattle.memory.specs.Memo.{memo-program};
-ghost use Rattle.relations.specs.Ways.{Goes, way-of, lattice-tests, difference-tests};
+ghost use Rattle.relations.specs.Shortcuts.{TakesShortcut, shortcut-of, lattice-tests, difference-tests};
 
 // What the memo holds on an operation on a and b, the lesser first.
-pub(crate) fn ordered(work: &[u32], op: u32, level: u8, a: u32, b: u32) -> memory::Found
+pub(crate) fn ordered(work: &[u32], op: u32, level: u8, a: u32, b: u32) -> memory::Lookup
     requires { ⌜ (0 < op) × (op < 16777216) ⌝ }
     ensures { λ r. ⌜ ((node : ℕ → ℕ → Prog) (m : List ℕ) → ((x y : ℕ) → node x y ≡ memo-program op level x y)
-        → Answers rel (ask (less b a) (node b a) (node a b)) node m (now (work .entry)) r) ⌝ }
+        → LooksUp rel (ask (less b a) (node b a) (node a b)) node m (now (work .entry)) r) ⌝ }
 {
     if b < a {
         return memory::memo::recall(work, op, level, b, a);
@@ -33,71 +33,77 @@ pub(crate) fn lattice_tests(
     b: u32,
     x: u32,
     y: u32,
-) -> memory::Found
+) -> memory::Lookup
     requires { ⌜ (0 < op) × (op < 16777216) ⌝ }
     ensures { λ r. ⌜ ((node : ℕ → ℕ → Prog) (m : List ℕ) → ((i j : ℕ) → node i j ≡ memo-program op level i j)
-        → Tells rel m (now (work .entry)) level a pa → Tells rel m (now (work .entry)) level b pb
-        → Answers rel (lattice-tests level a b x y node) node m (now (work .entry)) r) ⌝ }
+        → KnowsProperties rel m (now (work .entry)) level a pa → KnowsProperties rel m (now (work .entry)) level b pb
+        → LooksUp rel (lattice-tests level a b x y node) node m (now (work .entry)) r) ⌝ }
 {
     if pb.universal {
-        return memory::Found::Answer(x);
+        return memory::Lookup::Answer(x);
     }
     if pb.empty {
-        return memory::Found::Answer(y);
+        return memory::Lookup::Answer(y);
     }
     if pa.universal {
-        return memory::Found::Answer(y);
+        return memory::Lookup::Answer(y);
     }
     ordered(work, op, level, a, b)
 }
 
 // What was found, where no other operation answers.
-pub fn way_of(found: memory::Found) -> crate::Way
-    ensures { λ r. ⌜ r ≡ way-of found ⌝ }
+pub fn shortcut_of(found: memory::Lookup) -> crate::Shortcut
+    ensures { λ r. ⌜ r ≡ shortcut-of found ⌝ }
 {
     match found {
-        memory::Found::Answer(h) => crate::Way::Answer(h),
-        memory::Found::Operands(x, y) => crate::Way::Operands(x, y),
+        memory::Lookup::Answer(h) => crate::Shortcut::Answer(h),
+        memory::Lookup::Operands(x, y) => crate::Shortcut::Recurse(x, y),
     }
 }
 
 // What the properties of two relations, or the memo, know of their symmetric difference; the other operation is `complement`.
-pub(crate) fn xor_tests(nodes: &[u32], work: &[u32], level: u8, a: u32, b: u32) -> crate::Way
-    ensures { λ r. ⌜ Goes (xor-tests rel level a b (node2 (xor-op rel) level)) (complement rel level) (node2 (xor-op rel) level)
+pub(crate) fn xor_tests(nodes: &[u32], work: &[u32], level: u8, a: u32, b: u32) -> crate::Shortcut
+    ensures { λ r. ⌜ TakesShortcut (xor-tests rel level a b (node2 (xor-op rel) level)) (complement rel level) (node2 (xor-op rel) level)
         (now (nodes .entry)) (now (work .entry)) r ⌝ }
 {
-    let pa = memory::words::relation_properties(nodes, work, level, a);
+    let pa = memory::property_words::relation_properties(nodes, work, level, a);
     if pa.empty {
-        return crate::Way::Answer(b);
+        return crate::Shortcut::Answer(b);
     }
-    let pb = memory::words::relation_properties(nodes, work, level, b);
+    let pb = memory::property_words::relation_properties(nodes, work, level, b);
     if pb.empty {
-        return crate::Way::Answer(a);
+        return crate::Shortcut::Answer(a);
     }
     if pa.universal {
-        return crate::Way::Other(b);
+        return crate::Shortcut::Delegate(b);
     }
     if pb.universal {
-        return crate::Way::Other(a);
+        return crate::Shortcut::Delegate(a);
     }
-    way_of(ordered(work, crate::XOR, level, a, b))
+    shortcut_of(ordered(work, memory::memo::XOR, level, a, b))
 }
 
 // What the properties of two relations, or the memo, know of their difference; the other operation is `complement`.
-pub(crate) fn difference_tests(nodes: &[u32], work: &[u32], level: u8, a: u32, b: u32) -> crate::Way
-    ensures { λ r. ⌜ Goes (difference-tests level a b (node2 difference-op level)) (complement rel level) (node2 difference-op level)
+pub(crate) fn difference_tests(
+    nodes: &[u32],
+    work: &[u32],
+    level: u8,
+    a: u32,
+    b: u32,
+) -> crate::Shortcut
+    ensures { λ r. ⌜ TakesShortcut (difference-tests level a b (node2 difference-op level)) (complement rel level) (node2 difference-op level)
         (now (nodes .entry)) (now (work .entry)) r ⌝ }
 {
-    let pa = memory::words::relation_properties(nodes, work, level, a);
+    let pa = memory::property_words::relation_properties(nodes, work, level, a);
     if pa.empty {
-        return crate::Way::Answer(a);
+        return crate::Shortcut::Answer(a);
     }
-    let pb = memory::words::relation_properties(nodes, work, level, b);
+    let pb = memory::property_words::relation_properties(nodes, work, level, b);
     if pb.empty {
-        return crate::Way::Answer(a);
+        return crate::Shortcut::Answer(a);
     }
     if pa.universal {
-        return crate::Way::Other(b);
+        return crate::Shortcut::Delegate(b);
     }
-    way_of(memory::memo::recall(work, crate::DIFFERENCE, level, a, b))
+    shortcut_of(memory::memo::recall(work, memory::memo::DIFFERENCE, level, a, b))
 }

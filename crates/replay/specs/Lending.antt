@@ -2,8 +2,8 @@
 use mathlib.Core.List.{List}
 use Prim.Native.Nat.{ℕ, _≤_}
 use lib.ListN.{length}
-use Rattle.nodes.specs.Store.{set, rel}
-use Rattle.judging.specs.Memory.{head}
+use Rattle.model.specs.Store.{set, rel}
+use Rattle.store_check.specs.Memory.{head}
 use Rattle.replay.specs.declared.runs.Lent.{Lent}
 use Rattle.replay.specs.declared.runs.Step.{Step}
 use Rattle.replay.specs.declared.runs.Step.the-variants.{On, End}
@@ -15,6 +15,6 @@ pub record Lends (l : Lent) (r s : List ℕ) : Type 0 where
   pub set-head : head set ≤ l .sets
   pub sets : l .sets ≤ length s
 
-abbrev pub Goes : Step → List ℕ → List ℕ → Type 0
-Goes (On l) r s = Lends l r s
-Goes End r s = Unit {0}
+abbrev pub StepLends : Step → List ℕ → List ℕ → Type 0
+StepLends (On l) r s = Lends l r s
+StepLends End r s = Unit {0}

@@ -3,9 +3,9 @@ use mathlib.Core.Path.{_≡_}
 use mathlib.Core.List.{List, [], _∷_}
 use Prim.Native.Nat.{ℕ, _≤_}
 use lib.ListN.{take}
-use Rattle.outcomes.specs.Answers.{number, values}
-use Rattle.outcomes.specs.declared.Answer.{Answer}
-use Rattle.outcomes.specs.declared.Answer.the-variants.{Handle, Truth, SetNode, RelationNode, Declined}
+use Rattle.call_rules.specs.Answers.{refusal-number, values}
+use Rattle.call_rules.specs.declared.Answer.{Answer}
+use Rattle.call_rules.specs.declared.Answer.the-variants.{Handle, Truth, SetNode, RelationNode, Declined}
 use Rattle.replay.specs.declared.answers.Shown.{Shown}
 
 -- `h` a handle, `b` yes or no, `c` children, `r` a refusal
@@ -22,7 +22,7 @@ numbers-of (Handle h) = values (Handle h)
 numbers-of (Truth b) = values (Truth b)
 numbers-of (SetNode x0 x1) = values (SetNode x0 x1)
 numbers-of (RelationNode x00 x01 x10 x11) = values (RelationNode x00 x01 x10 x11)
-numbers-of (Declined r) = number r ∷ []
+numbers-of (Declined r) = refusal-number r ∷ []
 
 pub record Shows (a : Answer) (s : Shown) : Type 0 where
   pub letter : s .letter ≡ letter-of a

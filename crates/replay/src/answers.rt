@@ -10,34 +10,34 @@ pub struct Shown {
 }
 
 // The letter and the numbers of an answer.
-fn show(a: outcomes::Answer) -> Shown
+fn show(a: call_rules::Answer) -> Shown
     ensures { λ r. ⌜ Shows a r ⌝ }
 {
     match a {
-        outcomes::Answer::Handle(h) => Shown {
+        call_rules::Answer::Handle(h) => Shown {
             letter: b'h',
             count: 1,
             x: [h, 0, 0, 0],
         },
-        outcomes::Answer::Truth(b) => Shown {
+        call_rules::Answer::Truth(b) => Shown {
             letter: b'b',
             count: 1,
             x: [if b { 1 } else { 0 }, 0, 0, 0],
         },
-        outcomes::Answer::SetNode(x0, x1) => Shown {
+        call_rules::Answer::SetNode(x0, x1) => Shown {
             letter: b'c',
             count: 2,
             x: [x0, x1, 0, 0],
         },
-        outcomes::Answer::RelationNode(x00, x01, x10, x11) => Shown {
+        call_rules::Answer::RelationNode(x00, x01, x10, x11) => Shown {
             letter: b'c',
             count: 4,
             x: [x00, x01, x10, x11],
         },
-        outcomes::Answer::Declined(r) => Shown {
+        call_rules::Answer::Declined(r) => Shown {
             letter: b'r',
             count: 1,
-            x: [outcomes::number_of(r), 0, 0, 0],
+            x: [call_rules::number_of(r), 0, 0, 0],
         },
     }
 }
@@ -56,7 +56,7 @@ fn counts(n: u32, m: u32) {
 }
 
 // The answer of a call on a store.
-pub fn write(a: outcomes::Answer, n: u32, m: u32) {
+pub fn write(a: call_rules::Answer, n: u32, m: u32) {
     let s = show(a);
     let letter = [s.letter];
     let x = s.x;

@@ -1,11 +1,11 @@
 // Runs the calls of a list on a store in two memories, of which as much is lent as `new` asked for.
 ghost use Prim.Native.Nat.{_≤_};
 ghost use lib.ListN.{length};
-ghost use Rattle.nodes.specs.Store.{set, rel};
-ghost use Rattle.judging.specs.Memory.{head};
-ghost use Rattle.replay.specs.Lending.{Lends, Goes};
+ghost use Rattle.model.specs.Store.{set, rel};
+ghost use Rattle.store_check.specs.Memory.{head};
+ghost use Rattle.replay.specs.Lending.{Lends, StepLends};
 use crate::calls::Call;
-use judging::head::*;
+use store_check::head::*;
 
 // How many numbers of each memory are lent.
 pub struct Lent {
@@ -13,7 +13,7 @@ pub struct Lent {
     pub sets: usize,
 }
 
-// Whether the replay goes on, and with what.
+// Whether the replay takes another line, and how much is lent to it.
 pub enum Step {
     On(Lent),
     End,
@@ -25,7 +25,7 @@ fn answer(
     sets: &mut [u32],
     work: &mut [u32],
     call: Call,
-) -> outcomes::Answer {
+) -> call_rules::Answer {
     match call {
         Call::AddsSet(c) => store::set_calls::set_call(relations, sets, work, c),
         Call::ReadsSet(c) => store::set_reads::set_read(relations, sets, work, c),
@@ -34,8 +34,8 @@ fn answer(
         Call::AddsImage(c) => store::image_calls::image_call(relations, sets, work, c),
         Call::AddsFilter(c) => store::filter_calls::filter_call(relations, sets, work, c),
         Call::ReadsPath(c) => store::path_reads::path_read(relations, sets, work, c),
-        Call::New(_, _, _) => outcomes::Answer::Declined(outcomes::Refusal::NotStore),
-        Call::Nothing => outcomes::Answer::Declined(outcomes::Refusal::NotStore),
+        Call::New(_, _, _) => call_rules::Answer::Declined(call_rules::Refusal::NotStore),
+        Call::Nothing => call_rules::Answer::Declined(call_rules::Refusal::NotStore),
     }
 }
 
@@ -58,7 +58,7 @@ fn begin(
     s: u32,
 ) -> Step
     requires { ⌜ Lends lent (now relations) (now sets) ⌝ }
-    ensures { λ t. ⌜ Goes t (now (relations .entry)) (now (sets .entry)) ⌝ }
+    ensures { λ t. ⌜ StepLends t (now (relations .entry)) (now (sets .entry)) ⌝ }
 {
     let rl = RELATION_HEAD + 4 * (r as usize);
     let sl = SET_HEAD + 2 * (s as usize);
@@ -69,7 +69,7 @@ fn begin(
         return Step::End;
     }
     let a = new_store::new(&mut relations[..rl], &mut sets[..sl], work, k);
-    if let outcomes::Answer::Declined(_) = a {
+    if let call_rules::Answer::Declined(_) = a {
         crate::answers::write(a, relations[RELATION_COUNT], sets[SET_COUNT]);
         return Step::On(lent);
     }
@@ -89,7 +89,7 @@ fn run_line(
     lent: Lent,
 ) -> Step
     requires { ⌜ Lends lent (now relations) (now sets) ⌝ }
-    ensures { λ t. ⌜ Goes t (now (relations .entry)) (now (sets .entry)) ⌝ }
+    ensures { λ t. ⌜ StepLends t (now (relations .entry)) (now (sets .entry)) ⌝ }
 {
     let call = crate::calls::asked(line);
     if let Call::New(k, r, s) = call {

@@ -6,14 +6,14 @@ use Prim.Native.Nat.{ℕ, zero, suc, _+_, _-_, _<_}
 use native.Mathlib.Omega.{arith}
 use lib.Dec.{ltb}
 use borrow.Author.Tests.{ne-eqb, lt-ltb, le-ltb}
-use Rattle.nodes.specs.Operations.{constant, is-zero, complement, union-tests, union-op, union, intersect, xor-tests, xor-op, xor, difference, raise}
-use Rattle.nodes.specs.Programs.{isEmpty, same, has, panic, ret, ask, look, mk, _>>=_}
-use Rattle.nodes.specs.Recursion.{node2, op2, x0, x1, each2}
-use Rattle.nodes.specs.Sets.{intersects-tests, intersects-op, intersects, ifelse}
-use Rattle.nodes.specs.Store.{set, signed}
-use Rattle.nodes.proofs.Recursion.{node2-open}
-use Rattle.memory.specs.Arena.{Stands}
-use Rattle.memory.specs.Memo.{memo-program}
+use Rattle.model.specs.Operations.{constant, is-zero, complement, union-tests, union-op, union, intersect, xor-tests, xor-op, xor, difference, raise}
+use Rattle.model.specs.Programs.{isEmpty, same, has, panic, ret, ask, look, mk, _>>=_}
+use Rattle.model.specs.Recursion.{node2, op2, x0, x1, each2}
+use Rattle.model.specs.Sets.{intersects-tests, intersects-op, intersects, ifelse}
+use Rattle.model.specs.Store.{set, signed}
+use Rattle.model.proofs.Recursion.{node2-open}
+use Rattle.memory.specs.Performing.{Reduces}
+use Rattle.memory.specs.Memo.{memo-program, op-set-union, op-set-xor, op-intersects, op-ifelse}
 use Rattle.memory.proofs.Steps.{begin, by, no, same-says}
 
 -- UNION
@@ -23,7 +23,7 @@ module _ (l a b : ℕ) where
   unfolding union op2
   union-is = refl
 
-  pub union-memo : node2 (union-op set) l a b ≡ memo-program 1 l a b
+  pub union-memo : node2 (union-op set) l a b ≡ memo-program op-set-union l a b
   unfolding memo-program
   union-memo = refl
 
@@ -33,7 +33,7 @@ module _ (l a b : ℕ) where
 
   -- the tests on equal and opposite operands do not answer
   pub union-tested : {m w : List ℕ} (o : ℕ) → (a ≡ b → ⊥) → o ≡ signed 1 b → (a ≡ o → ⊥) →
-      Stands set (union set l a b) (union-tests set l a b (node2 (union-op set) l)) m w
+      Reduces set (union set l a b) (union-tests set l a b (node2 (union-op set) l)) m w
   union-tested o h e n = no (no (by begin union-is) (same-says (ne-eqb a b h))) (same-says (ne-eqb a (signed 1 b) (λ q. n (q ∙ sym e))))
 
 -- XOR
@@ -42,12 +42,12 @@ module _ (l a b : ℕ) where
   unfolding xor op2
   xor-is = refl
 
-  pub xor-memo : node2 (xor-op set) l a b ≡ memo-program 2 l a b
+  pub xor-memo : node2 (xor-op set) l a b ≡ memo-program op-set-xor l a b
   unfolding memo-program
   xor-memo = refl
 
   -- the test on equal operands does not answer
-  pub xor-tested : {m w : List ℕ} → (a ≡ b → ⊥) → Stands set (xor set l a b) (xor-tests set l a b (node2 (xor-op set) l)) m w
+  pub xor-tested : {m w : List ℕ} → (a ≡ b → ⊥) → Reduces set (xor set l a b) (xor-tests set l a b (node2 (xor-op set) l)) m w
   xor-tested h = no (by begin xor-is) (same-says (ne-eqb a b h))
 
 -- INTERSECTS
@@ -56,7 +56,7 @@ module _ (l a b : ℕ) where
   unfolding intersects op2
   intersects-is = refl
 
-  pub intersects-memo : node2 intersects-op l a b ≡ memo-program 3 l a b
+  pub intersects-memo : node2 intersects-op l a b ≡ memo-program op-intersects l a b
   unfolding memo-program
   intersects-memo = refl
 
@@ -99,7 +99,7 @@ ifelse-below (suc l) (suc v) t e h g =
     let j : v ≡ suc v - 1 = omega arith in
     λ k. look set t (λ x. look set e (λ y. ifelse (i k) (j k) (x0 x) (x0 y) >>= λ r0. ifelse (i k) (j k) (x1 x) (x1 y) >>= λ r1. mk set (r0 ∷ r1 ∷ [])))
 
-pub ifelse-memo : (l v t e : ℕ) → v < 256 → ifelse l v t e ≡ memo-program (64 + v) l t e
+pub ifelse-memo : (l v t e : ℕ) → v < 256 → ifelse l v t e ≡ memo-program (op-ifelse + v) l t e
 unfolding memo-program
 ifelse-memo l v t e h =
     let a : ltb 1023 (64 + v) ≡ false = le-ltb 1023 (64 + v) (omega arith) in

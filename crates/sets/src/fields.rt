@@ -1,24 +1,21 @@
 // The operations of sp.rs that name a field: `ifelse` and `test`.
 ghost use mathlib.Core.Path.{_≡_};
 ghost use Prim.Native.Nat.{_-_};
-ghost use Rattle.nodes.specs.Store.{set};
-ghost use Rattle.nodes.specs.Operations.{raise, test};
-ghost use Rattle.nodes.specs.Sets.{ifelse};
-ghost use Rattle.memory.specs.Arena.{Performs};
-
-// `ifelse` on field v has this number and v.
-const IFELSE: u32 = 64;
+ghost use Rattle.model.specs.Store.{set};
+ghost use Rattle.model.specs.Operations.{raise, test};
+ghost use Rattle.model.specs.Sets.{ifelse};
+ghost use Rattle.memory.specs.Performing.{Performs};
 
 // The first set where field var is 1, else the second; both of this level, which is above the field.
 pub fn ifelse(
     nodes: &mut [u32],
     work: &mut [u32],
-    s: memory::Arena,
+    s: memory::RunState,
     level: u8,
     var: u8,
     then_branch: u32,
     else_branch: u32,
-) -> memory::Arena
+) -> memory::RunState
     ensures { λ r. ⌜ Performs set (ifelse level var «then_branch» «else_branch») s
         (now (nodes .entry)) (now (nodes .exit)) (now (work .entry)) (now (work .exit)) r ⌝ }
 {
@@ -28,10 +25,10 @@ pub fn ifelse(
     if level == 0 {
         return s;
     }
-    let op = IFELSE + var as u32;
+    let op = memory::memo::IFELSE + var as u32;
     let found = memory::memo::recall(work, op, level, then_branch, else_branch);
-    if let memory::Found::Answer(h) = found {
-        return memory::place::give(s, h);
+    if let memory::Lookup::Answer(h) = found {
+        return memory::insert::with_handle(s, h);
     }
     let t = crate::get(nodes, then_branch);
     let e = crate::get(nodes, else_branch);
@@ -46,7 +43,7 @@ pub fn ifelse(
 }
 
 // The set r .h with n more fields before its own.
-fn raise(nodes: &mut [u32], work: &mut [u32], r: memory::Arena, n: u8) -> memory::Arena
+fn raise(nodes: &mut [u32], work: &mut [u32], r: memory::RunState, n: u8) -> memory::RunState
     ensures { λ q. ⌜ Performs set (raise n (r .h)) r (now (nodes .entry)) (now (nodes .exit)) (now (work .entry)) (now (work .exit)) q ⌝ }
 {
     if n == 0 {
@@ -67,18 +64,18 @@ fn fields_after(k: u8, var: u8) -> u8
 pub fn test(
     nodes: &mut [u32],
     work: &mut [u32],
-    s: memory::Arena,
+    s: memory::RunState,
     k: u8,
     var: u8,
     value: bool,
-) -> memory::Arena
+) -> memory::RunState
     ensures { λ r. ⌜ Performs set (test set k var value) s (now (nodes .entry)) (now (nodes .exit)) (now (work .entry)) (now (work .exit)) r ⌝ }
 {
     let z = crate::zero_at_depth(nodes, work, s, fields_after(k, var));
-    let m = crate::mk(nodes, work, z, z.h, memory::words::other(z.h));
+    let m = crate::mk(nodes, work, z, z.h, memory::property_words::other(z.h));
     let r = raise(nodes, work, m, var);
     if value {
-        return memory::place::give(r, r.h);
+        return memory::insert::with_handle(r, r.h);
     }
-    memory::place::give(r, memory::words::other(r.h))
+    memory::insert::with_handle(r, memory::property_words::other(r.h))
 }

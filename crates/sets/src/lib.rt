@@ -3,26 +3,19 @@ ghost use mathlib.Core.Path.{_≡_};
 ghost use mathlib.Core.List.{List, [], _∷_};
 ghost use mathlib.Core.Bool.{Bool, true, false};
 ghost use Prim.Native.Nat.{ℕ, _-_, _*_, _%_, _<_, _≤_};
-ghost use Rattle.nodes.specs.Store.{set, Store, signed, stored, sign};
-ghost use Rattle.nodes.specs.Programs.{Prog, isUniversal, has, holds};
-ghost use Rattle.nodes.specs.WellFormed.{Held, WellFormed};
-ghost use Rattle.nodes.specs.Recursion.{node2};
-ghost use Rattle.nodes.specs.Operations.{constant, is-zero, complement, union, union-op, union-tests, intersect, xor, xor-op};
-ghost use Rattle.nodes.specs.Operations.{xor-tests, difference};
-ghost use Rattle.nodes.specs.Sets.{intersects, intersects-op, intersects-tests};
-ghost use Rattle.memory.specs.Arena.{Performs, Looks, Answers};
+ghost use Rattle.model.specs.Store.{set, Store, signed, stored, sign};
+ghost use Rattle.model.specs.Programs.{Prog, isUniversal, has, holds};
+ghost use Rattle.model.specs.WellFormed.{Held, WellFormed};
+ghost use Rattle.model.specs.Recursion.{node2};
+ghost use Rattle.model.specs.Operations.{constant, is-zero, complement, union, union-op, union-tests, intersect, xor, xor-op};
+ghost use Rattle.model.specs.Operations.{xor-tests, difference};
+ghost use Rattle.model.specs.Sets.{intersects, intersects-op, intersects-tests};
+ghost use Rattle.memory.specs.Performing.{Performs, ReadsChildren, LooksUp};
 ghost use Rattle.memory.specs.Noting.{LevelIs};
 ghost use Rattle.memory.specs.Rows.{places, plain};
 ghost use Rattle.memory.specs.Working.{Words};
 
 pub mod fields;
-
-// The operations' numbers in the memo.
-const UNION: u32 = 1;
-
-const XOR: u32 = 2;
-
-const INTERSECTS: u32 = 3;
 
 // A node: two children, one for this field being 0 and one for it being 1.
 pub struct SPnode {
@@ -32,10 +25,10 @@ pub struct SPnode {
 
 // The children of a handle; 0 where it has no node.
 pub fn get(nodes: &[u32], sp: u32) -> SPnode
-    ensures { λ r. ⌜ Looks set (now (nodes .entry)) sp (r .x0 ∷ r .x1 ∷ []) ⌝ }
+    ensures { λ r. ⌜ ReadsChildren set (now (nodes .entry)) sp (r .x0 ∷ r .x1 ∷ []) ⌝ }
 {
-    let x0 = memory::words::child_of(nodes, 2, sp, 0);
-    let x1 = memory::words::child_of(nodes, 2, sp, 1);
+    let x0 = memory::property_words::child_of(nodes, 2, sp, 0);
+    let x1 = memory::property_words::child_of(nodes, 2, sp, 1);
     SPnode { x0: x0, x1: x1 }
 }
 
@@ -43,18 +36,18 @@ pub fn get(nodes: &[u32], sp: u32) -> SPnode
 fn hold(
     nodes: &mut [u32],
     work: &mut [u32],
-    s: memory::Arena,
+    s: memory::RunState,
     x0: u32,
     x1: u32,
     polarity: u32,
-) -> memory::Arena
+) -> memory::RunState
     requires { ⌜ polarity < 2 ⌝ }
     ensures { λ r. ⌜ ((y : List ℕ) → x0 ∷ x1 ∷ [] ≡ stored set y → polarity ≡ sign y
         → Performs set (Prog.mk set y) s (now (nodes .entry)) (now (nodes .exit)) (now (work .entry)) (now (work .exit)) r) ⌝ }
 {
     let x = [x0, x1];
-    let r = memory::place::join(nodes, work, s, &x);
-    memory::Arena {
+    let r = memory::insert::join(nodes, work, s, &x);
+    memory::RunState {
         ok: r.ok,
         n: r.n,
         h: 2 * (r.h + 1) + polarity,
@@ -62,7 +55,13 @@ fn hold(
 }
 
 // The node held, else a new one.
-pub fn mk(nodes: &mut [u32], work: &mut [u32], s: memory::Arena, x0: u32, x1: u32) -> memory::Arena
+pub fn mk(
+    nodes: &mut [u32],
+    work: &mut [u32],
+    s: memory::RunState,
+    x0: u32,
+    x1: u32,
+) -> memory::RunState
     ensures { λ r. ⌜ Performs set (Prog.mk set (x0 ∷ x1 ∷ [])) s (now (nodes .entry)) (now (nodes .exit)) (now (work .entry)) (now (work .exit)) r ⌝ }
 {
     if x0 % 2 == 1 {
@@ -70,8 +69,8 @@ pub fn mk(nodes: &mut [u32], work: &mut [u32], s: memory::Arena, x0: u32, x1: u3
             nodes,
             work,
             s,
-            memory::words::other(x0),
-            memory::words::other(x1),
+            memory::property_words::other(x0),
+            memory::property_words::other(x1),
             1,
         );
     }
@@ -82,14 +81,14 @@ pub fn mk(nodes: &mut [u32], work: &mut [u32], s: memory::Arena, x0: u32, x1: u3
 fn constant(
     nodes: &mut [u32],
     work: &mut [u32],
-    s: memory::Arena,
+    s: memory::RunState,
     level: u8,
     c: u32,
-) -> memory::Arena
+) -> memory::RunState
     ensures { λ r. ⌜ Performs set (constant set c level) s (now (nodes .entry)) (now (nodes .exit)) (now (work .entry)) (now (work .exit)) r ⌝ }
 {
     if level == 0 {
-        return memory::place::give(s, c);
+        return memory::insert::with_handle(s, c);
     }
     let z = constant(nodes, work, s, level - 1, c);
     mk(nodes, work, z, z.h, z.h)
@@ -98,9 +97,9 @@ fn constant(
 pub fn zero_at_depth(
     nodes: &mut [u32],
     work: &mut [u32],
-    s: memory::Arena,
+    s: memory::RunState,
     level: u8,
-) -> memory::Arena
+) -> memory::RunState
     ensures { λ r. ⌜ Performs set (constant set 0 level) s (now (nodes .entry)) (now (nodes .exit)) (now (work .entry)) (now (work .exit)) r ⌝ }
 {
     constant(nodes, work, s, level, 0)
@@ -109,9 +108,9 @@ pub fn zero_at_depth(
 pub fn one_at_depth(
     nodes: &mut [u32],
     work: &mut [u32],
-    s: memory::Arena,
+    s: memory::RunState,
     level: u8,
-) -> memory::Arena
+) -> memory::RunState
     ensures { λ r. ⌜ Performs set (constant set 1 level) s (now (nodes .entry)) (now (nodes .exit)) (now (work .entry)) (now (work .exit)) r ⌝ }
 {
     constant(nodes, work, s, level, 1)
@@ -121,7 +120,7 @@ pub fn one_at_depth(
 pub fn level(nodes: &[u32], k: u32, sp: u32) -> u32
     ensures { λ r. ⌜ LevelIs (now (nodes .entry)) 2 k sp r × (r ≤ k) ⌝ }
 {
-    memory::words::level(nodes, 2, k, sp)
+    memory::property_words::level(nodes, 2, k, sp)
 }
 
 // Whether a set of this level has all packets.
@@ -130,58 +129,58 @@ pub fn is_universal(nodes: &[u32], work: &[u32], level: u8, sp: u32) -> bool
         → Words (now (work .entry)) (plain set B (now (nodes .entry)) n) → Held set (plain set B (now (nodes .entry)) n) level sp
         → holds (has isUniversal set level sp) (plain set B (now (nodes .entry)) n) ≡ r) ⌝ }
 {
-    let p = memory::words::set_properties(nodes, work, level, sp);
+    let p = memory::property_words::set_properties(nodes, work, level, sp);
     p.universal
 }
 
 // What the properties of two sets, or the memo, know of their union.
-fn union_tests(nodes: &[u32], work: &[u32], level: u8, a: u32, b: u32) -> memory::Found
-    ensures { λ r. ⌜ Answers set (union-tests set level a b (node2 (union-op set) level)) (node2 (union-op set) level)
+fn union_tests(nodes: &[u32], work: &[u32], level: u8, a: u32, b: u32) -> memory::Lookup
+    ensures { λ r. ⌜ LooksUp set (union-tests set level a b (node2 (union-op set) level)) (node2 (union-op set) level)
         (now (nodes .entry)) (now (work .entry)) r ⌝ }
 {
-    let pa = memory::words::set_properties(nodes, work, level, a);
+    let pa = memory::property_words::set_properties(nodes, work, level, a);
     if pa.empty {
-        return memory::Found::Answer(b);
+        return memory::Lookup::Answer(b);
     }
-    let pb = memory::words::set_properties(nodes, work, level, b);
+    let pb = memory::property_words::set_properties(nodes, work, level, b);
     if pb.universal {
-        return memory::Found::Answer(b);
+        return memory::Lookup::Answer(b);
     }
     if pb.empty {
-        return memory::Found::Answer(a);
+        return memory::Lookup::Answer(a);
     }
     if pa.universal {
-        return memory::Found::Answer(a);
+        return memory::Lookup::Answer(a);
     }
     if b < a {
-        return memory::memo::recall(work, UNION, level, b, a);
+        return memory::memo::recall(work, memory::memo::SET_UNION, level, b, a);
     }
-    memory::memo::recall(work, UNION, level, a, b)
+    memory::memo::recall(work, memory::memo::SET_UNION, level, a, b)
 }
 
 pub fn union(
     nodes: &mut [u32],
     work: &mut [u32],
-    s: memory::Arena,
+    s: memory::RunState,
     level: u8,
     a: u32,
     b: u32,
-) -> memory::Arena
+) -> memory::RunState
     ensures { λ r. ⌜ Performs set (union set level a b) s (now (nodes .entry)) (now (nodes .exit)) (now (work .entry)) (now (work .exit)) r ⌝ }
 {
     if !s.ok {
         return s;
     }
     if a == b {
-        return memory::place::give(s, a);
+        return memory::insert::with_handle(s, a);
     }
-    if a == memory::words::other(b) {
+    if a == memory::property_words::other(b) {
         return one_at_depth(nodes, work, s, level);
     }
     let found = union_tests(nodes, work, level, a, b);
     match found {
-        memory::Found::Answer(h) => memory::place::give(s, h),
-        memory::Found::Operands(x, y) => {
+        memory::Lookup::Answer(h) => memory::insert::with_handle(s, h),
+        memory::Lookup::Operands(x, y) => {
             if level == 0 {
                 return s;
             }
@@ -190,26 +189,26 @@ pub fn union(
             let r0 = union(nodes, work, s, level - 1, p.x0, q.x0);
             let r1 = union(nodes, work, r0, level - 1, p.x1, q.x1);
             let r = mk(nodes, work, r1, r0.h, r1.h);
-            memory::memo::remember(work, r, UNION, level, x, y)
+            memory::memo::remember(work, r, memory::memo::SET_UNION, level, x, y)
         }
     }
 }
 
 // The other handle of a set.
-pub fn complement(s: memory::Arena, a: u32) -> memory::Arena
+pub fn complement(s: memory::RunState, a: u32) -> memory::RunState
     ensures { λ r. ⌜ ((l : ℕ) (m w : List ℕ) → Performs set (complement set l a) s m m w w r) ⌝ }
 {
-    memory::place::give(s, memory::words::other(a))
+    memory::insert::with_handle(s, memory::property_words::other(a))
 }
 
 pub fn intersect(
     nodes: &mut [u32],
     work: &mut [u32],
-    s: memory::Arena,
+    s: memory::RunState,
     level: u8,
     a: u32,
     b: u32,
-) -> memory::Arena
+) -> memory::RunState
     ensures { λ r. ⌜ Performs set (intersect set level a b) s (now (nodes .entry)) (now (nodes .exit)) (now (work .entry)) (now (work .exit)) r ⌝ }
 {
     let r = union(
@@ -217,59 +216,59 @@ pub fn intersect(
         work,
         s,
         level,
-        memory::words::other(a),
-        memory::words::other(b),
+        memory::property_words::other(a),
+        memory::property_words::other(b),
     );
-    memory::place::give(r, memory::words::other(r.h))
+    memory::insert::with_handle(r, memory::property_words::other(r.h))
 }
 
 pub fn difference(
     nodes: &mut [u32],
     work: &mut [u32],
-    s: memory::Arena,
+    s: memory::RunState,
     level: u8,
     a: u32,
     b: u32,
-) -> memory::Arena
+) -> memory::RunState
     ensures { λ r. ⌜ Performs set (difference set level a b) s (now (nodes .entry)) (now (nodes .exit)) (now (work .entry)) (now (work .exit)) r ⌝ }
 {
-    let r = union(nodes, work, s, level, memory::words::other(a), b);
-    memory::place::give(r, memory::words::other(r.h))
+    let r = union(nodes, work, s, level, memory::property_words::other(a), b);
+    memory::insert::with_handle(r, memory::property_words::other(r.h))
 }
 
 // What the properties of two sets, or the memo, know of their symmetric difference.
-fn xor_tests(nodes: &[u32], work: &[u32], level: u8, a: u32, b: u32) -> memory::Found
-    ensures { λ r. ⌜ Answers set (xor-tests set level a b (node2 (xor-op set) level)) (node2 (xor-op set) level)
+fn xor_tests(nodes: &[u32], work: &[u32], level: u8, a: u32, b: u32) -> memory::Lookup
+    ensures { λ r. ⌜ LooksUp set (xor-tests set level a b (node2 (xor-op set) level)) (node2 (xor-op set) level)
         (now (nodes .entry)) (now (work .entry)) r ⌝ }
 {
-    let pa = memory::words::set_properties(nodes, work, level, a);
+    let pa = memory::property_words::set_properties(nodes, work, level, a);
     if pa.empty {
-        return memory::Found::Answer(b);
+        return memory::Lookup::Answer(b);
     }
-    let pb = memory::words::set_properties(nodes, work, level, b);
+    let pb = memory::property_words::set_properties(nodes, work, level, b);
     if pb.empty {
-        return memory::Found::Answer(a);
+        return memory::Lookup::Answer(a);
     }
     if pa.universal {
-        return memory::Found::Answer(memory::words::other(b));
+        return memory::Lookup::Answer(memory::property_words::other(b));
     }
     if pb.universal {
-        return memory::Found::Answer(memory::words::other(a));
+        return memory::Lookup::Answer(memory::property_words::other(a));
     }
     if b < a {
-        return memory::memo::recall(work, XOR, level, b, a);
+        return memory::memo::recall(work, memory::memo::SET_XOR, level, b, a);
     }
-    memory::memo::recall(work, XOR, level, a, b)
+    memory::memo::recall(work, memory::memo::SET_XOR, level, a, b)
 }
 
 pub fn xor(
     nodes: &mut [u32],
     work: &mut [u32],
-    s: memory::Arena,
+    s: memory::RunState,
     level: u8,
     a: u32,
     b: u32,
-) -> memory::Arena
+) -> memory::RunState
     ensures { λ r. ⌜ Performs set (xor set level a b) s (now (nodes .entry)) (now (nodes .exit)) (now (work .entry)) (now (work .exit)) r ⌝ }
 {
     if !s.ok {
@@ -280,8 +279,8 @@ pub fn xor(
     }
     let found = xor_tests(nodes, work, level, a, b);
     match found {
-        memory::Found::Answer(h) => memory::place::give(s, h),
-        memory::Found::Operands(x, y) => {
+        memory::Lookup::Answer(h) => memory::insert::with_handle(s, h),
+        memory::Lookup::Operands(x, y) => {
             if level == 0 {
                 return s;
             }
@@ -290,65 +289,71 @@ pub fn xor(
             let r0 = xor(nodes, work, s, level - 1, p.x0, q.x0);
             let r1 = xor(nodes, work, r0, level - 1, p.x1, q.x1);
             let r = mk(nodes, work, r1, r0.h, r1.h);
-            memory::memo::remember(work, r, XOR, level, x, y)
+            memory::memo::remember(work, r, memory::memo::SET_XOR, level, x, y)
         }
     }
 }
 
 // Whether a set of this level is empty, 1 or 0.
-pub fn is_zero(nodes: &[u32], work: &[u32], s: memory::Arena, level: u8, a: u32) -> memory::Arena
+pub fn is_zero(
+    nodes: &[u32],
+    work: &[u32],
+    s: memory::RunState,
+    level: u8,
+    a: u32,
+) -> memory::RunState
     ensures { λ r. ⌜ Performs set (is-zero set level a) s (now (nodes .entry)) (now (nodes .entry)) (now (work .entry)) (now (work .entry)) r ⌝ }
 {
     if !s.ok {
         return s;
     }
-    let p = memory::words::set_properties(nodes, work, level, a);
+    let p = memory::property_words::set_properties(nodes, work, level, a);
     if p.empty {
-        return memory::place::give(s, 1);
+        return memory::insert::with_handle(s, 1);
     }
-    memory::place::give(s, 0)
+    memory::insert::with_handle(s, 0)
 }
 
 // What the properties of two sets, or the memo, know of whether they share a packet.
-fn intersects_tests(nodes: &[u32], work: &[u32], level: u8, a: u32, b: u32) -> memory::Found
-    ensures { λ r. ⌜ Answers set (intersects-tests level a b (node2 intersects-op level)) (node2 intersects-op level)
+fn intersects_tests(nodes: &[u32], work: &[u32], level: u8, a: u32, b: u32) -> memory::Lookup
+    ensures { λ r. ⌜ LooksUp set (intersects-tests level a b (node2 intersects-op level)) (node2 intersects-op level)
         (now (nodes .entry)) (now (work .entry)) r ⌝ }
 {
-    if a == memory::words::other(b) {
-        return memory::Found::Answer(0);
+    if a == memory::property_words::other(b) {
+        return memory::Lookup::Answer(0);
     }
-    let pa = memory::words::set_properties(nodes, work, level, a);
+    let pa = memory::property_words::set_properties(nodes, work, level, a);
     if pa.empty {
-        return memory::Found::Answer(0);
+        return memory::Lookup::Answer(0);
     }
-    let pb = memory::words::set_properties(nodes, work, level, b);
+    let pb = memory::property_words::set_properties(nodes, work, level, b);
     if pb.empty {
-        return memory::Found::Answer(0);
+        return memory::Lookup::Answer(0);
     }
     if a == b {
-        return memory::Found::Answer(1);
+        return memory::Lookup::Answer(1);
     }
     if pa.universal {
-        return memory::Found::Answer(1);
+        return memory::Lookup::Answer(1);
     }
     if pb.universal {
-        return memory::Found::Answer(1);
+        return memory::Lookup::Answer(1);
     }
     if b < a {
-        return memory::memo::recall(work, INTERSECTS, level, b, a);
+        return memory::memo::recall(work, memory::memo::INTERSECTS, level, b, a);
     }
-    memory::memo::recall(work, INTERSECTS, level, a, b)
+    memory::memo::recall(work, memory::memo::INTERSECTS, level, a, b)
 }
 
 // Whether two sets of this level share a packet, 1 or 0.
 pub fn intersects(
     nodes: &[u32],
     work: &mut [u32],
-    s: memory::Arena,
+    s: memory::RunState,
     level: u8,
     a: u32,
     b: u32,
-) -> memory::Arena
+) -> memory::RunState
     ensures { λ r. ⌜ Performs set (intersects level a b) s (now (nodes .entry)) (now (nodes .entry)) (now (work .entry)) (now (work .exit)) r ⌝ }
 {
     if !s.ok {
@@ -356,8 +361,8 @@ pub fn intersects(
     }
     let found = intersects_tests(nodes, work, level, a, b);
     match found {
-        memory::Found::Answer(h) => memory::place::give(s, h),
-        memory::Found::Operands(x, y) => {
+        memory::Lookup::Answer(h) => memory::insert::with_handle(s, h),
+        memory::Lookup::Operands(x, y) => {
             if level == 0 {
                 return s;
             }
@@ -365,11 +370,11 @@ pub fn intersects(
             let q = get(nodes, y);
             let r0 = intersects(nodes, work, s, level - 1, p.x0, q.x0);
             if r0.h == 1 {
-                let r = memory::place::give(r0, 1);
-                return memory::memo::remember(work, r, INTERSECTS, level, x, y);
+                let r = memory::insert::with_handle(r0, 1);
+                return memory::memo::remember(work, r, memory::memo::INTERSECTS, level, x, y);
             }
             let r1 = intersects(nodes, work, r0, level - 1, p.x1, q.x1);
-            memory::memo::remember(work, r1, INTERSECTS, level, x, y)
+            memory::memo::remember(work, r1, memory::memo::INTERSECTS, level, x, y)
         }
     }
 }

@@ -5,47 +5,47 @@ use Prim.Native.Nat.{ℕ, suc, _+_, _*_, _≤_}
 use native.Mathlib.Omega.{arith}
 use lib.Dec.{eqb}
 use lib.ListN.{getD, drop}
-use Rattle.nodes.specs.Store.{rel, Store}
-use Rattle.nodes.specs.Packets.{relates}
-use Rattle.nodes.specs.Programs.{Prog, mk}
-use Rattle.nodes.specs.Meaning.{Relates, Both, OneOf, Without}
-use Rattle.nodes.specs.WellFormed.{Held, WellFormed, level-of}
-use Rattle.nodes.proofs.Fields.{test-does, assign-does}
-use Rattle.nodes.proofs.Pairs.{relates-den, den-relates, relates-own, mk-relates, union-relates, zero-relates, top-relates}
-use Rattle.nodes.proofs.Pointwise.{intersect-does, xor-does, difference-does, complement-does}
-use Rattle.nodes.proofs.Rules.{Does, held-within, post-does}
-use Rattle.nodes.proofs.Sequence.{sequence-does}
-use Rattle.nodes.proofs.Star.{identity-does, star-does, flip-does, naive-forward-does, backward-does}
-use Rattle.nodes.proofs.YesNo.{is-zero-does}
+use Rattle.model.specs.Store.{rel, Store}
+use Rattle.model.specs.Packets.{relates}
+use Rattle.model.specs.Programs.{Prog, mk}
+use Rattle.model.specs.Meaning.{Relates, Both, OneOf, Without}
+use Rattle.model.specs.WellFormed.{Held, WellFormed, level-of}
+use Rattle.model.proofs.Fields.{test-does, assign-does}
+use Rattle.model.proofs.Pairs.{relates-den, den-relates, relates-own, mk-relates, union-relates, zero-relates, top-relates}
+use Rattle.model.proofs.Pointwise.{intersect-does, xor-does, difference-does, complement-does}
+use Rattle.model.proofs.Rules.{Does, held-within, post-does}
+use Rattle.model.proofs.Sequence.{sequence-does}
+use Rattle.model.proofs.Star.{identity-does, star-does, flip-does, naive-forward-does, backward-does}
+use Rattle.model.proofs.YesNo.{is-zero-does}
 use Rattle.store.specs.Meanings.{relation-meaning}
-use Rattle.outcomes.specs.Outcome.{of-one, of-two}
+use Rattle.call_rules.specs.Outcome.{of-one, of-two}
 use Rattle.store.specs.RelationCalls.{relation-declines, relation-program, relation-read-declines}
 use Rattle.store.specs.RelationChecking.{RelationFieldFits, RelationReadSafe}
-use Rattle.outcomes.specs.declared.Check.the-variants.{Level}
+use Rattle.call_rules.specs.declared.Check.the-variants.{Level}
 use Rattle.store.specs.declared.relation_calls.RelationCall.{RelationCall}
 use Rattle.store.specs.declared.relation_calls.RelationCall.the-variants as R
 use Rattle.store.specs.declared.relation_reads.RelationRead.{RelationRead}
 use Rattle.store.specs.declared.relation_reads.RelationRead.the-variants as Q
-use Rattle.outcomes.proofs.Going.{provided-went, also-went, one-went, two-went, four-went, less, above}
+use Rattle.call_rules.proofs.Declining.{guard-passed, also-passed, one-passed, two-passed, four-passed, less, above}
 
 -- CALLS THAT MAY ADD RELATIONS
 module _ {k : ℕ} {S : Store} {l : ℕ} (F : WellFormed k S) where
   -- an operation on one relation, and on two of one level
   pub single : (a : ℕ) (f : ℕ → Prog) (φ : ℕ → Store → ℕ → Type 0) → of-one k rel S a ≡ Level l
       → ((j : ℕ) → j ≤ k → Relates j (relates S a) S a → Does k S (f j) (φ j)) → Does k S (f l) (φ (level-of k rel S a))
-  single a f φ e D = let t = one-went F rel a e in subst (λ j. Does k S (f l) (φ j)) (sym (t .level)) (D l (t .low) (relates-own S l a (t .held)))
+  single a f φ e D = let t = one-passed F rel a e in subst (λ j. Does k S (f l) (φ j)) (sym (t .level)) (D l (t .low) (relates-own S l a (t .held)))
 
   pair : (a b : ℕ) (f : ℕ → Prog) (φ : ℕ → Store → ℕ → Type 0) → of-two k rel S a b ≡ Level l
       → ((j : ℕ) → j ≤ k → Relates j (relates S a) S a → Relates j (relates S b) S b → Does k S (f j) (φ j)) → Does k S (f l) (φ (level-of k rel S a))
   pair a b f φ e D =
-      let t = two-went F rel a b e in
+      let t = two-passed F rel a b e in
       subst (λ j. Does k S (f l) (φ j)) (sym (t .0 .level)) (D l (t .0 .low) (relates-own S l a (t .0 .held)) (relates-own S l b (t .1 .held)))
 
   pub relation-does : (c : RelationCall) → relation-declines k c S ≡ Level l → Does k S (relation-program k l c) (relation-meaning k c S)
   unfolding relation-meaning
   relation-does (R.Mk a b c d) e =
-      let s = also-went _ _ _ e in
-      let t = four-went F rel a b c d (s .0) in
+      let s = also-passed _ _ _ e in
+      let t = four-passed F rel a b c d (s .0) in
       subst (λ j. Does k S (mk rel (a ∷ b ∷ c ∷ d ∷ [])) (Relates (suc j) (λ p q. relates S (getD (a ∷ b ∷ c ∷ d ∷ []) (2 * getD p 0 0 + getD q 0 0) 0)
       (drop 1 p) (drop 1 q)))) (sym (t .0 .level)) (mk-relates l a b c d _ F (less _ _ (s .1)) (relates-own S l a (t .0 .held))
       (relates-own S l b (t .1 .held)) (relates-own S l c (t .2 .held)) (relates-own S l d (t .3 .held)))
@@ -64,8 +64,8 @@ module _ {k : ℕ} {S : Store} {l : ℕ} (F : WellFormed k S) where
   relation-does (R.Sequence a b) e = pair a b _ _ e (λ l i A B. sequence-does l a b F i A B)
   relation-does (R.Star a) e = single a _ _ e (λ l i A. star-does l a F i A)
   relation-does (R.Flip a) e = single a _ _ e (λ l i A. flip-does l a F i A)
-  relation-does (R.Test f b) e = test-does F f (eqb b 1) (less _ _ (provided-went _ _ e .0))
-  relation-does (R.Assign f b) e = assign-does F f (eqb b 1) (less _ _ (provided-went _ _ e .0))
+  relation-does (R.Test f b) e = test-does F f (eqb b 1) (less _ _ (guard-passed _ _ e .0))
+  relation-does (R.Assign f b) e = assign-does F f (eqb b 1) (less _ _ (guard-passed _ _ e .0))
   relation-does (R.NaiveForward a) e = single a _ _ e (λ l i A. naive-forward-does l a F i A)
   relation-does (R.Backward a) e = single a _ _ e (λ l i A. backward-does l a F i A)
 
@@ -83,16 +83,16 @@ module _ {k : ℕ} {S : Store} {l : ℕ} (F : WellFormed k S) where
   relation-field-small (R.Sequence a b) i e = tt
   relation-field-small (R.Star a) i e = tt
   relation-field-small (R.Flip a) i e = tt
-  relation-field-small (R.Test v b) i e = let h = less v k (provided-went _ _ e .0) in omega arith
-  relation-field-small (R.Assign v b) i e = let h = less v k (provided-went _ _ e .0) in omega arith
+  relation-field-small (R.Test v b) i e = let h = less v k (guard-passed _ _ e .0) in omega arith
+  relation-field-small (R.Assign v b) i e = let h = less v k (guard-passed _ _ e .0) in omega arith
   relation-field-small (R.NaiveForward a) i e = tt
   relation-field-small (R.Backward a) i e = tt
 
   -- CALLS THAT ADD NOTHING: what a call reads is there
   pub relation-read-safe : (c : RelationRead) → relation-read-declines k c S ≡ Level l → RelationReadSafe S l c
   relation-read-safe (Q.Get a) e =
-      let t = also-went _ _ _ e in
+      let t = also-passed _ _ _ e in
       let q = above l (t .1) in
-      held-within (q .0) (subst (λ l. Held rel S l a) (q .1) (one-went F rel a (t .0) .held))
-  relation-read-safe (Q.IsZero a) e = is-zero-does rel l a F (relates-den (relates-own S l a (one-went F rel a e .held))) .safe
-  relation-read-safe (Q.Relates a p q) e = one-went F rel a (also-went _ _ _ (also-went _ _ _ e .0) .0) .held
+      held-within (q .0) (subst (λ l. Held rel S l a) (q .1) (one-passed F rel a (t .0) .held))
+  relation-read-safe (Q.IsZero a) e = is-zero-does rel l a F (relates-den (relates-own S l a (one-passed F rel a e .held))) .safe
+  relation-read-safe (Q.Relates a p q) e = one-passed F rel a (also-passed _ _ _ (also-passed _ _ _ e .0) .0) .held

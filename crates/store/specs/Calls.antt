@@ -1,13 +1,13 @@
 -- All calls on a store but policies, and the outcome of each on two memories.
 use Prim.Native.Nat.{ℕ}
-use Rattle.judging.specs.Memory.{Memories}
-use Rattle.outcomes.specs.Outcome.{Told}
-use Rattle.outcomes.specs.OnMemories.{on-store, new-step}
+use Rattle.store_check.specs.Memory.{Memories}
+use Rattle.call_rules.specs.Outcome.{Outcome}
+use Rattle.call_rules.specs.OnMemories.{on-store, new-step}
 use Rattle.store.specs.SetCalls.{set-verdict, set-read-verdict}
 use Rattle.store.specs.RelationCalls.{relation-verdict, relation-read-verdict}
 use Rattle.store.specs.ImageCalls.{image-verdict, filter-verdict, path-verdict}
-use Rattle.outcomes.specs.declared.Answer.{Answer}
-use Rattle.outcomes.specs.declared.Answer.the-variants.{Declined}
+use Rattle.call_rules.specs.declared.Answer.{Answer}
+use Rattle.call_rules.specs.declared.Answer.the-variants.{Declined}
 use Rattle.store.specs.declared.set_calls.SetCall.{SetCall}
 use Rattle.store.specs.declared.set_reads.SetRead.{SetRead}
 use Rattle.store.specs.declared.image_calls.ImageCall.{ImageCall}
@@ -27,7 +27,7 @@ pub data Call : Type 0 where
   path-read : PathRead → Call
 
 -- the answer of a call on two memories, and the memories after it
-unfoldable pub step : Call → Memories → Told Answer Memories
+unfoldable pub step : Call → Memories → Outcome Answer Memories
 step (new-store k) M = new-step k M
 step (set-call c) M = on-store Declined (set-verdict c) M
 step (set-read c) M = on-store Declined (set-read-verdict c) M

@@ -1,12 +1,12 @@
 -- The calls between relations and sets, after spp.rs: what each declines in document 01's order, what it runs, and what it answers.
 use Prim.Native.Nat.{ℕ}
-use Rattle.nodes.specs.Store.{set, rel, Store}
-use Rattle.nodes.specs.Programs.{Prog}
-use Rattle.nodes.specs.Images.{fwd, bwd, push, pull, diagonal, ifwd, ibwd, has-image, has-path}
-use Rattle.outcomes.specs.Outcome.{Verdict, gives, runs, going, handle-of, of-one, of-pair, of-path, yes-no}
-use Rattle.outcomes.specs.declared.Check.{Check}
-use Rattle.outcomes.specs.declared.Answer.{Answer}
-use Rattle.outcomes.specs.declared.Answer.the-variants.{Declined}
+use Rattle.model.specs.Store.{set, rel, Store}
+use Rattle.model.specs.Programs.{Prog}
+use Rattle.model.specs.Images.{fwd, bwd, push, pull, diagonal, ifwd, ibwd, has-image, has-path}
+use Rattle.call_rules.specs.Outcome.{Verdict, gives, runs, unless-declined, as-handle, of-one, of-pair, of-path, yes-no}
+use Rattle.call_rules.specs.declared.Check.{Check}
+use Rattle.call_rules.specs.declared.Answer.{Answer}
+use Rattle.call_rules.specs.declared.Answer.the-variants.{Declined}
 use Rattle.store.specs.declared.image_calls.ImageCall.{ImageCall}
 use Rattle.store.specs.declared.image_calls.ImageCall.the-variants.{Fwd, Bwd, Push, Pull}
 use Rattle.store.specs.declared.filter_calls.FilterCall.{FilterCall}
@@ -28,7 +28,7 @@ image-program l (Push p a) = push l p a
 image-program l (Pull a p) = pull l a p
 
 abbrev pub image-verdict : ImageCall → ℕ → Store → Verdict Answer
-image-verdict c k S = going Declined (image-declines k c S) (λ l. runs (image-program l c) handle-of)
+image-verdict c k S = unless-declined Declined (image-declines k c S) (λ l. runs (image-program l c) as-handle)
 
 -- CALLS THAT MAY ADD RELATIONS
 abbrev pub filter-declines : ℕ → FilterCall → Store → Check
@@ -42,7 +42,7 @@ filter-program l (Ifwd p) = ifwd l p
 filter-program l (Ibwd p) = ibwd l p
 
 abbrev pub filter-verdict : FilterCall → ℕ → Store → Verdict Answer
-filter-verdict c k S = going Declined (filter-declines k c S) (λ l. runs (filter-program l c) handle-of)
+filter-verdict c k S = unless-declined Declined (filter-declines k c S) (λ l. runs (filter-program l c) as-handle)
 
 -- CALLS THAT ADD NOTHING
 abbrev pub path-declines : ℕ → PathRead → Store → Check
@@ -54,4 +54,4 @@ path-answer S l (HasImage p a) = yes-no (has-image l p a) S
 path-answer S l (HasPath p a q) = yes-no (has-path l p a q) S
 
 abbrev pub path-verdict : PathRead → ℕ → Store → Verdict Answer
-path-verdict c k S = going Declined (path-declines k c S) (λ l. gives (path-answer S l c))
+path-verdict c k S = unless-declined Declined (path-declines k c S) (λ l. gives (path-answer S l c))

@@ -1,8 +1,8 @@
 -- What the code of the calls that add nothing asks, between relations and sets.
 use Prim.Native.Nat.{ℕ}
-use Rattle.nodes.specs.Store.{Store}
-use Rattle.nodes.specs.Images.{has-image, has-path}
-use Rattle.nodes.specs.Safety.{Safe}
+use Rattle.model.specs.Store.{Store}
+use Rattle.model.specs.Images.{has-image, has-path}
+use Rattle.model.specs.Safety.{Safe}
 use Rattle.store.specs.declared.path_reads.PathRead.{PathRead}
 use Rattle.store.specs.declared.path_reads.PathRead.the-variants.{HasImage, HasPath}
 

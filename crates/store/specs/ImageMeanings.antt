@@ -1,9 +1,9 @@
 -- What the handle that a call between relations and sets gives means, by its operands' packets in the store S before: document 01, "The operations".
 use Prim.Native.Nat.{ℕ}
-use Rattle.nodes.specs.Store.{set, rel, Store}
-use Rattle.nodes.specs.Packets.{contains, relates}
-use Rattle.nodes.specs.WellFormed.{level-of}
-use Rattle.nodes.specs.Meaning.{Den, Relates, Filter, Range, Domain, Image, Preimage}
+use Rattle.model.specs.Store.{set, rel, Store}
+use Rattle.model.specs.Packets.{contains, relates}
+use Rattle.model.specs.WellFormed.{level-of}
+use Rattle.model.specs.Meaning.{Den, Relates, Filter, Range, Domain, Image, Preimage}
 use Rattle.store.specs.declared.image_calls.ImageCall.{ImageCall}
 use Rattle.store.specs.declared.image_calls.ImageCall.the-variants.{Fwd, Bwd, Push, Pull}
 use Rattle.store.specs.declared.filter_calls.FilterCall.{FilterCall}

@@ -5,10 +5,10 @@ use mathlib.Core.Logic.{_⊎_}
 use Prim.Native.Nat.{ℕ, suc, _+_, _*_}
 use lib.ListN.{getD, drop}
 use lib.Dec.{eqb}
-use Rattle.nodes.specs.Store.{set, rel, Store}
-use Rattle.nodes.specs.Packets.{contains, relates}
-use Rattle.nodes.specs.WellFormed.{level-of}
-use Rattle.nodes.specs.Meaning.{Den, Relates, Both, OneOf, Without, Passes, Choice, Filter, Assign, Compose, Star, Range, Domain}
+use Rattle.model.specs.Store.{set, rel, Store}
+use Rattle.model.specs.Packets.{contains, relates}
+use Rattle.model.specs.WellFormed.{level-of}
+use Rattle.model.specs.Meaning.{Den, Relates, Both, OneOf, Without, Passes, Choice, Filter, Assign, Compose, Star, Range, Domain}
 use Rattle.store.specs.declared.relation_calls.RelationCall.{RelationCall}
 use Rattle.store.specs.declared.relation_calls.RelationCall.the-variants as R
 use Rattle.store.specs.declared.set_calls.SetCall.{SetCall}

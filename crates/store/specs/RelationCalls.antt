@@ -1,19 +1,18 @@
 -- The calls on relations, after spp.rs: what each declines in document 01's order, what it runs, and what it answers.
 use mathlib.Core.List.{[], _∷_}
-use Prim.Native.Nat.{ℕ, _^_}
-use lib.Dec.{ltb, eqb}
-use Rattle.nodes.specs.Store.{rel, Store, get}
-use Rattle.nodes.specs.Packets.{packet, digits, walk}
-use Rattle.nodes.specs.Programs.{Prog, mk}
-use Rattle.nodes.specs.Recursion.{x00, x01, x10, x11}
-use Rattle.nodes.specs.Operations.{zero-at-depth, one-at-depth, top-at-depth, union, intersect, xor, difference, complement, is-zero, test, assign}
-use Rattle.nodes.specs.Relations.{sequence, star, flip, naive-forward, backward}
-use Rattle.outcomes.specs.Outcome.{Verdict, gives, runs, going, handle-of, provided, also, of-one, of-two, of-four, yes-no}
-use Rattle.outcomes.specs.declared.Refusal.the-variants.{NoChildren, OutOfRange}
-use Rattle.outcomes.specs.declared.Check.{Check}
-use Rattle.outcomes.specs.declared.Check.the-variants.{Level}
-use Rattle.outcomes.specs.declared.Answer.{Answer}
-use Rattle.outcomes.specs.declared.Answer.the-variants.{Truth, RelationNode, Declined}
+use Prim.Native.Nat.{ℕ}
+use lib.Dec.{eqb}
+use Rattle.model.specs.Store.{rel, Store, get}
+use Rattle.model.specs.Packets.{packet, digits, walk}
+use Rattle.model.specs.Programs.{Prog, mk}
+use Rattle.model.specs.Recursion.{x00, x01, x10, x11}
+use Rattle.model.specs.Operations.{zero-at-depth, one-at-depth, top-at-depth, union, intersect, xor, difference, complement, is-zero, test, assign}
+use Rattle.model.specs.Relations.{sequence, star, flip, naive-forward, backward}
+use Rattle.call_rules.specs.Outcome.{Verdict, gives, runs, unless-declined, as-handle, of-one, of-two, of-parent, of-four-children, of-field, of-packets, yes-no}
+use Rattle.call_rules.specs.declared.Check.{Check}
+use Rattle.call_rules.specs.declared.Check.the-variants.{Level}
+use Rattle.call_rules.specs.declared.Answer.{Answer}
+use Rattle.call_rules.specs.declared.Answer.the-variants.{Truth, RelationNode, Declined}
 use Rattle.store.specs.declared.relation_calls.RelationCall.{RelationCall}
 use Rattle.store.specs.declared.relation_calls.RelationCall.the-variants.{Mk, Zero, One, Top, Union, Intersect, Xor, Difference, Complement}
 use Rattle.store.specs.declared.relation_calls.RelationCall.the-variants.{Sequence, Star, Flip, Test, Assign, NaiveForward, Backward}
@@ -21,9 +20,8 @@ use Rattle.store.specs.declared.relation_reads.RelationRead.{RelationRea
 use Rattle.store.specs.declared.relation_reads.RelationRead.the-variants.{Get, IsZero, Relates}
 
 -- CALLS THAT MAY ADD RELATIONS. What a call declines after 1, in a store S of k fields, or its operands' level.
--- 01, `mk`: "2; 3; 5 if the children are at level k"; `test`, `assign`: "5 if the field is k or more", and a value is 0 or 1
 abbrev pub relation-declines : ℕ → RelationCall → Store → Check
-relation-declines k (Mk a b c d) S = also (of-four k rel S a b c d) OutOfRange (λ l. ltb l k)
+relation-declines k (Mk a b c d) S = of-four-children k rel S a b c d
 relation-declines k Zero S = Level k
 relation-declines k One S = Level k
 relation-declines k Top S = Level k
@@ -35,8 +33,8 @@ relation-declines k (Complement a) S = of-one k rel S a
 relation-declines k (Sequence a b) S = of-two k rel S a b
 relation-declines k (Star a) S = of-one k rel S a
 relation-declines k (Flip a) S = of-one k rel S a
-relation-declines k (Test f b) S = provided OutOfRange (ltb f k) (provided OutOfRange (ltb b 2) (Level k))
-relation-declines k (Assign f b) S = provided OutOfRange (ltb f k) (provided OutOfRange (ltb b 2) (Level k))
+relation-declines k (Test f b) S = of-field k f b
+relation-declines k (Assign f b) S = of-field k f b
 relation-declines k (NaiveForward a) S = of-one k rel S a
 relation-declines k (Backward a) S = of-one k rel S a
 
@@ -60,13 +58,13 @@ relation-program k l (NaiveForward a) = naive-forward l a
 relation-program k l (Backward a) = backward l a
 
 abbrev pub relation-verdict : RelationCall → ℕ → Store → Verdict Answer
-relation-verdict c k S = going Declined (relation-declines k c S) (λ l. runs (relation-program k l c) handle-of)
+relation-verdict c k S = unless-declined Declined (relation-declines k c S) (λ l. runs (relation-program k l c) as-handle)
 
--- CALLS THAT ADD NOTHING. 01, `get`: "4 for handles 0 and 1"; `relates`: "5 if a packet is 2^level or more"
+-- CALLS THAT ADD NOTHING
 abbrev pub relation-read-declines : ℕ → RelationRead → Store → Check
-relation-read-declines k (Get a) S = also (of-one k rel S a) NoChildren (λ l. ltb 0 l)
+relation-read-declines k (Get a) S = of-parent k rel S a
 relation-read-declines k (IsZero a) S = of-one k rel S a
-relation-read-declines k (Relates a p q) S = also (also (of-one k rel S a) OutOfRange (λ l. ltb p (2 ^ l))) OutOfRange (λ l. ltb q (2 ^ l))
+relation-read-declines k (Relates a p q) S = of-packets k S a p q
 
 abbrev pub relation-read-answer : Store → ℕ → RelationRead → Answer
 relation-read-answer S l (Get a) = (let x = get rel S a in RelationNode (x00 x) (x01 x) (x10 x) (x11 x))
@@ -74,4 +72,4 @@ relation-read-answer S l (IsZero a) = yes-no (is-zero rel l a) S
 relation-read-answer S l (Relates a p q) = Truth (eqb (walk rel S a (digits (packet l p) (packet l q))) 1)
 
 abbrev pub relation-read-verdict : RelationRead → ℕ → Store → Verdict Answer
-relation-read-verdict c k S = going Declined (relation-read-declines k c S) (λ l. gives (relation-read-answer S l c))
+relation-read-verdict c k S = unless-declined Declined (relation-read-declines k c S) (λ l. gives (relation-read-answer S l c))

@@ -4,11 +4,11 @@ use mathlib.Core.List.{List}
 use mathlib.Core.Bool.{Bool}
 use Prim.Native.Nat.{ℕ, _<_, _≤_}
 use lib.Dec.{eqb}
-use Rattle.nodes.specs.Store.{rel, Store}
-use Rattle.nodes.specs.Operations.{is-zero}
-use Rattle.nodes.specs.Packets.{packet, digits, walk}
-use Rattle.nodes.specs.Safety.{Within, Safe}
-use Rattle.nodes.specs.WellFormed.{Held}
+use Rattle.model.specs.Store.{rel, Store}
+use Rattle.model.specs.Operations.{is-zero}
+use Rattle.model.specs.Packets.{packet, digits, walk}
+use Rattle.model.specs.Safety.{Within, Safe}
+use Rattle.model.specs.WellFormed.{Held}
 use Rattle.memory.specs.Rows.{places, plain}
 use Rattle.store.specs.declared.relation_calls.RelationCall.{RelationCall}
 use Rattle.store.specs.declared.relation_calls.RelationCall.the-variants.{Mk, Zero, One, Top, Union, Intersect, Xor, Difference, Complement}

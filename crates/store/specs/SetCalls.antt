@@ -1,36 +1,33 @@
 -- The calls on sets, after sp.rs: what each declines in document 01's order, what it runs, and what it answers.
 use mathlib.Core.List.{[], _∷_}
 use Prim.Native.Nat.{ℕ}
-use lib.Dec.{ltb, eqb}
-use Rattle.nodes.specs.Store.{set, Store, signed, get}
-use Rattle.nodes.specs.Programs.{Prog, mk}
-use Rattle.nodes.specs.Recursion.{x0, x1}
-use Rattle.nodes.specs.Operations.{zero-at-depth, one-at-depth, union, intersect, xor, difference, is-zero, test}
-use Rattle.nodes.specs.Sets.{intersects, ifelse}
-use Rattle.outcomes.specs.Outcome.{Verdict, gives, runs, going, handle-of, provided, also, of-one, of-two, yes-no}
-use Rattle.outcomes.specs.declared.Refusal.the-variants.{NoChildren, OutOfRange}
-use Rattle.outcomes.specs.declared.Check.{Check}
-use Rattle.outcomes.specs.declared.Check.the-variants.{Level}
-use Rattle.outcomes.specs.declared.Answer.{Answer}
-use Rattle.outcomes.specs.declared.Answer.the-variants.{Handle, SetNode, Declined}
+use lib.Dec.{eqb}
+use Rattle.model.specs.Store.{set, Store, signed, get}
+use Rattle.model.specs.Programs.{Prog, mk}
+use Rattle.model.specs.Recursion.{x0, x1}
+use Rattle.model.specs.Operations.{zero-at-depth, one-at-depth, union, intersect, xor, difference, is-zero, test}
+use Rattle.model.specs.Sets.{intersects, ifelse}
+use Rattle.call_rules.specs.Outcome.{Verdict, gives, runs, unless-declined, as-handle, of-one, of-two, of-parent, of-children, of-field, of-branches, yes-no}
+use Rattle.call_rules.specs.declared.Check.{Check}
+use Rattle.call_rules.specs.declared.Check.the-variants.{Level}
+use Rattle.call_rules.specs.declared.Answer.{Answer}
+use Rattle.call_rules.specs.declared.Answer.the-variants.{Handle, SetNode, Declined}
 use Rattle.store.specs.declared.set_calls.SetCall.{SetCall}
 use Rattle.store.specs.declared.set_calls.SetCall.the-variants.{Mk, Zero, One, Union, Intersect, Xor, Difference, Test, Ifelse}
 use Rattle.store.specs.declared.set_reads.SetRead.{SetRead}
 use Rattle.store.specs.declared.set_reads.SetRead.the-variants.{Get, Complement, IsZero, Intersects}
 
 -- CALLS THAT MAY ADD SETS. What a call declines after 1, in a store S of k fields, or its operands' level.
--- 01, `mk`: "2; 3; 5 if the children are at level k"; `test`: "5 if the field is k or more", and a value is 0 or 1;
--- `ifelse`: "5 likewise; 2; 3; 4 if the branches' level is not above the field"
 abbrev pub set-declines : ℕ → SetCall → Store → Check
-set-declines k (Mk a b) S = also (of-two k set S a b) OutOfRange (λ l. ltb l k)
+set-declines k (Mk a b) S = of-children k set S a b
 set-declines k Zero S = Level k
 set-declines k One S = Level k
 set-declines k (Union a b) S = of-two k set S a b
 set-declines k (Intersect a b) S = of-two k set S a b
 set-declines k (Xor a b) S = of-two k set S a b
 set-declines k (Difference a b) S = of-two k set S a b
-set-declines k (Test f b) S = provided OutOfRange (ltb f k) (provided OutOfRange (ltb b 2) (Level k))
-set-declines k (Ifelse f t e) S = provided OutOfRange (ltb f k) (also (of-two k set S t e) NoChildren (λ l. ltb f l))
+set-declines k (Test f b) S = of-field k f b
+set-declines k (Ifelse f t e) S = of-branches k set S f t e
 
 -- what it runs, l being that level
 abbrev pub set-program : ℕ → ℕ → SetCall → Prog
@@ -45,11 +42,11 @@ set-program k l (Test f b) = test set k f (eqb b 1)
 set-program k l (Ifelse f t e) = ifelse l f t e
 
 abbrev pub set-verdict : SetCall → ℕ → Store → Verdict Answer
-set-verdict c k S = going Declined (set-declines k c S) (λ l. runs (set-program k l c) handle-of)
+set-verdict c k S = unless-declined Declined (set-declines k c S) (λ l. runs (set-program k l c) as-handle)
 
--- CALLS THAT ADD NOTHING. 01, `get`: "4 for handles 0 and 1"
+-- CALLS THAT ADD NOTHING
 abbrev pub set-read-declines : ℕ → SetRead → Store → Check
-set-read-declines k (Get a) S = also (of-one k set S a) NoChildren (λ l. ltb 0 l)
+set-read-declines k (Get a) S = of-parent k set S a
 set-read-declines k (Complement a) S = of-one k set S a
 set-read-declines k (IsZero a) S = of-one k set S a
 set-read-declines k (Intersects a b) S = of-two k set S a b
@@ -61,4 +58,4 @@ set-read-answer S l (IsZero a) = yes-no (is-zero set l a) S
 set-read-answer S l (Intersects a b) = yes-no (intersects l a b) S
 
 abbrev pub set-read-verdict : SetRead → ℕ → Store → Verdict Answer
-set-read-verdict c k S = going Declined (set-read-declines k c S) (λ l. gives (set-read-answer S l c))
+set-read-verdict c k S = unless-declined Declined (set-read-declines k c S) (λ l. gives (set-read-answer S l c))

@@ -1,9 +1,9 @@
 -- What the code of the calls on sets asks of a call.
 use Prim.Native.Nat.{ℕ, _<_}
-use Rattle.nodes.specs.Store.{set, Store}
-use Rattle.nodes.specs.Operations.{is-zero}
-use Rattle.nodes.specs.Sets.{intersects}
-use Rattle.nodes.specs.Safety.{Within, Safe}
+use Rattle.model.specs.Store.{set, Store}
+use Rattle.model.specs.Operations.{is-zero}
+use Rattle.model.specs.Sets.{intersects}
+use Rattle.model.specs.Safety.{Within, Safe}
 use Rattle.store.specs.declared.set_calls.SetCall.{SetCall}
 use Rattle.store.specs.declared.set_calls.SetCall.the-variants.{Mk, Zero, One, Union, Intersect, Xor, Difference, Test, Ifelse}
 use Rattle.store.specs.declared.set_reads.SetRead.{SetRead}

@@ -1,15 +1,15 @@
 // The calls that read relations and may add sets.
 ghost use mathlib.Core.Path.{_≡_};
 ghost use Prim.Native.Nat.{ℕ};
-ghost use Rattle.nodes.specs.Store.{set};
-ghost use Rattle.memory.specs.Arena.{PerformsOn, Beside};
-ghost use Rattle.judging.specs.Memory.{memories};
-ghost use Rattle.outcomes.specs.Outcome.{told};
-ghost use Rattle.outcomes.specs.Promise.{Meets};
+ghost use Rattle.model.specs.Store.{set};
+ghost use Rattle.memory.specs.Performing.{PerformsOn, OtherNodes};
+ghost use Rattle.store_check.specs.Memory.{memories};
+ghost use Rattle.call_rules.specs.Outcome.{outcome};
+ghost use Rattle.call_rules.specs.Promise.{Meets};
 ghost use Rattle.store.specs.Calls.{image-call, step};
 ghost use Rattle.store.specs.ImageCalls.{image-declines, image-program};
-ghost use Rattle.outcomes.specs.Checking.{ChecksBoth, Accepted};
-use judging::head::*;
+ghost use Rattle.call_rules.specs.Checking.{ChecksBoth, CheckedStore};
+use store_check::head::*;
 
 // A call with its arguments, after spp.rs: `fwd` and `bwd` of a relation, `push` of a set through a relation, `pull` of a relation and a set.
 pub enum ImageCall {
@@ -27,14 +27,14 @@ fn check(
     m: usize,
     k: u32,
     call: ImageCall,
-) -> outcomes::Check
+) -> call_rules::Check
     ensures { λ r. ⌜ ChecksBoth (now (relations .entry)) n (now (sets .entry)) m k (λ S. image-declines k call S) r ⌝ }
 {
     match call {
-        ImageCall::Fwd(a) => outcomes::operands::one(relations, 4, n, k, a),
-        ImageCall::Bwd(a) => outcomes::operands::one(relations, 4, n, k, a),
-        ImageCall::Push(p, a) => outcomes::operands::pair(relations, n, sets, m, k, a, p),
-        ImageCall::Pull(a, p) => outcomes::operands::pair(relations, n, sets, m, k, a, p),
+        ImageCall::Fwd(a) => call_rules::operands::one(relations, 4, n, k, a),
+        ImageCall::Bwd(a) => call_rules::operands::one(relations, 4, n, k, a),
+        ImageCall::Push(p, a) => call_rules::operands::pair(relations, n, sets, m, k, a, p),
+        ImageCall::Pull(a, p) => call_rules::operands::pair(relations, n, sets, m, k, a, p),
     }
 }
 
@@ -43,35 +43,51 @@ fn perform(
     relations: &[u32],
     sets: &mut [u32],
     work: &mut [u32],
-    s: memory::Arena,
+    s: memory::RunState,
     level: u8,
     call: ImageCall,
-) -> memory::Arena
-    ensures { λ r. ⌜ ((j : ℕ) → PerformsOn (Beside set (now (relations .entry)) j) set (image-program level call) s
+) -> memory::RunState
+    ensures { λ r. ⌜ ((j : ℕ) → PerformsOn (OtherNodes set (now (relations .entry)) j) set (image-program level call) s
         (now (sets .entry)) (now (sets .exit)) (now (work .entry)) (now (work .exit)) r) ⌝ }
 {
     match call {
-        ImageCall::Fwd(a) => images::fwd(relations, sets, work, s, level, a),
-        ImageCall::Bwd(a) => images::bwd(relations, sets, work, s, level, a),
-        ImageCall::Push(p, a) => images::moves::push(relations, sets, work, s, level, p, a),
-        ImageCall::Pull(a, p) => images::moves::pull(relations, sets, work, s, level, a, p),
+        ImageCall::Fwd(a) => relation_images::fwd(relations, sets, work, s, level, a),
+        ImageCall::Bwd(a) => relation_images::bwd(relations, sets, work, s, level, a),
+        ImageCall::Push(p, a) => relation_images::moves::push(
+            relations,
+            sets,
+            work,
+            s,
+            level,
+            p,
+            a,
+        ),
+        ImageCall::Pull(a, p) => relation_images::moves::pull(
+            relations,
+            sets,
+            work,
+            s,
+            level,
+            a,
+            p,
+        ),
     }
 }
 
 // Checks a call on a store, and runs it.
-fn judged(
+fn run_checked(
     relations: &[u32],
     sets: &mut [u32],
     work: &mut [u32],
     call: ImageCall,
-) -> outcomes::Answer
-    requires { ⌜ Accepted set (memories (now relations) (now sets)) (now work) ⌝ }
-    ensures { λ r. ⌜ told r (memories (now (relations .entry)) (now (sets .exit)))
+) -> call_rules::Answer
+    requires { ⌜ CheckedStore set (memories (now relations) (now sets)) (now work) ⌝ }
+    ensures { λ r. ⌜ outcome r (memories (now (relations .entry)) (now (sets .exit)))
         ≡ step (image-call call) (memories (now (relations .entry)) (now (sets .entry))) ⌝ }
 {
     let k = relations[FIELDS];
-    let n = memory::wide(relations[RELATION_COUNT]);
-    let m = memory::wide(sets[SET_COUNT]);
+    let n = memory::as_index(relations[RELATION_COUNT]);
+    let m = memory::as_index(sets[SET_COUNT]);
     let check = check(
         &relations[RELATION_HEAD..],
         n,
@@ -81,9 +97,9 @@ fn judged(
         call,
     );
     match check {
-        outcomes::Check::No(r) => outcomes::Answer::Declined(r),
-        outcomes::Check::Level(l) => {
-            let s = memory::Arena {
+        call_rules::Check::No(r) => call_rules::Answer::Declined(r),
+        call_rules::Check::Level(l) => {
+            let s = memory::RunState {
                 ok: true,
                 n: m,
                 h: 0,
@@ -93,10 +109,10 @@ fn judged(
                 &mut sets[SET_HEAD..],
                 work,
                 s,
-                memory::narrow(l),
+                memory::as_level(l),
                 call,
             );
-            outcomes::finish::finish(sets, SET_COUNT, SET_HEAD, 2, m, r)
+            call_rules::finish::finish(sets, SET_COUNT, SET_HEAD, 2, m, r)
         }
     }
 }
@@ -107,15 +123,15 @@ pub fn image_call(
     sets: &mut [u32],
     work: &mut [u32],
     call: ImageCall,
-) -> outcomes::Answer
+) -> call_rules::Answer
     ensures { λ r. ⌜ Meets (step (image-call call) (memories (now (relations .entry)) (now (sets .entry))))
         (memories (now (relations .entry)) (now (sets .exit))) (now (work .entry)) (now (work .exit)) r ⌝ }
 {
-    if !judging::is_store(relations, sets, work, true) {
-        nodes::clear(work);
-        return outcomes::Answer::Declined(outcomes::Refusal::NotStore);
+    if !store_check::is_store(relations, sets, work, true) {
+        memory::clear(work);
+        return call_rules::Answer::Declined(call_rules::Refusal::NotStore);
     }
-    let r = judged(relations, sets, work, call);
-    nodes::clear(work);
+    let r = run_checked(relations, sets, work, call);
+    memory::clear(work);
     r
 }

@@ -1,15 +1,15 @@
 // The calls that may add relations.
 ghost use mathlib.Core.Path.{_≡_};
-ghost use Rattle.nodes.specs.Store.{rel};
-ghost use Rattle.memory.specs.Arena.{Performs};
-ghost use Rattle.judging.specs.Memory.{memories};
-ghost use Rattle.outcomes.specs.Outcome.{told};
-ghost use Rattle.outcomes.specs.Promise.{Meets};
+ghost use Rattle.model.specs.Store.{rel};
+ghost use Rattle.memory.specs.Performing.{Performs};
+ghost use Rattle.store_check.specs.Memory.{memories};
+ghost use Rattle.call_rules.specs.Outcome.{outcome};
+ghost use Rattle.call_rules.specs.Promise.{Meets};
 ghost use Rattle.store.specs.Calls.{relation-call, step};
 ghost use Rattle.store.specs.RelationCalls.{relation-declines, relation-program};
-ghost use Rattle.outcomes.specs.Checking.{Checks, Accepted};
+ghost use Rattle.call_rules.specs.Checking.{Checks, CheckedStore};
 ghost use Rattle.store.specs.RelationChecking.{RelationFieldFits};
-use judging::head::*;
+use store_check::head::*;
 
 // A call with its arguments, after spp.rs: handles, and for `test` and `assign` a field first; a value is 0 or 1.
 pub enum RelationCall {
@@ -32,26 +32,35 @@ pub enum RelationCall {
 }
 
 // Whether a call may run on the first n nodes.
-fn check(nodes: &[u32], n: usize, k: u32, call: RelationCall) -> outcomes::Check
+fn check(nodes: &[u32], n: usize, k: u32, call: RelationCall) -> call_rules::Check
     ensures { λ r. ⌜ Checks rel (now (nodes .entry)) n k (λ S. relation-declines k call S) r ⌝ }
 {
     match call {
-        RelationCall::Mk(a, b, c, d) => outcomes::operands::four(nodes, 4, n, k, a, b, c, d),
-        RelationCall::Zero => outcomes::Check::Level(k),
-        RelationCall::One => outcomes::Check::Level(k),
-        RelationCall::Top => outcomes::Check::Level(k),
-        RelationCall::Union(a, b) => outcomes::operands::two(nodes, 4, n, k, a, b),
-        RelationCall::Intersect(a, b) => outcomes::operands::two(nodes, 4, n, k, a, b),
-        RelationCall::Xor(a, b) => outcomes::operands::two(nodes, 4, n, k, a, b),
-        RelationCall::Difference(a, b) => outcomes::operands::two(nodes, 4, n, k, a, b),
-        RelationCall::Complement(a) => outcomes::operands::one(nodes, 4, n, k, a),
-        RelationCall::Sequence(a, b) => outcomes::operands::two(nodes, 4, n, k, a, b),
-        RelationCall::Star(a) => outcomes::operands::one(nodes, 4, n, k, a),
-        RelationCall::Flip(a) => outcomes::operands::one(nodes, 4, n, k, a),
-        RelationCall::Test(var, value) => outcomes::operands::field(k, var, value),
-        RelationCall::Assign(var, value) => outcomes::operands::field(k, var, value),
-        RelationCall::NaiveForward(a) => outcomes::operands::one(nodes, 4, n, k, a),
-        RelationCall::Backward(a) => outcomes::operands::one(nodes, 4, n, k, a),
+        RelationCall::Mk(a, b, c, d) => call_rules::operands::four_children(
+            nodes,
+            4,
+            n,
+            k,
+            a,
+            b,
+            c,
+            d,
+        ),
+        RelationCall::Zero => call_rules::Check::Level(k),
+        RelationCall::One => call_rules::Check::Level(k),
+        RelationCall::Top => call_rules::Check::Level(k),
+        RelationCall::Union(a, b) => call_rules::operands::two(nodes, 4, n, k, a, b),
+        RelationCall::Intersect(a, b) => call_rules::operands::two(nodes, 4, n, k, a, b),
+        RelationCall::Xor(a, b) => call_rules::operands::two(nodes, 4, n, k, a, b),
+        RelationCall::Difference(a, b) => call_rules::operands::two(nodes, 4, n, k, a, b),
+        RelationCall::Complement(a) => call_rules::operands::one(nodes, 4, n, k, a),
+        RelationCall::Sequence(a, b) => call_rules::operands::two(nodes, 4, n, k, a, b),
+        RelationCall::Star(a) => call_rules::operands::one(nodes, 4, n, k, a),
+        RelationCall::Flip(a) => call_rules::operands::one(nodes, 4, n, k, a),
+        RelationCall::Test(var, value) => call_rules::operands::field(k, var, value),
+        RelationCall::Assign(var, value) => call_rules::operands::field(k, var, value),
+        RelationCall::NaiveForward(a) => call_rules::operands::one(nodes, 4, n, k, a),
+        RelationCall::Backward(a) => call_rules::operands::one(nodes, 4, n, k, a),
     }
 }
 
@@ -59,11 +68,11 @@ fn check(nodes: &[u32], n: usize, k: u32, call: RelationCall) -> outcomes::Check
 fn perform(
     nodes: &mut [u32],
     work: &mut [u32],
-    s: memory::Arena,
+    s: memory::RunState,
     k: u8,
     level: u8,
     call: RelationCall,
-) -> memory::Arena
+) -> memory::RunState
     requires { ⌜ RelationFieldFits call ⌝ }
     ensures { λ r. ⌜ Performs rel (relation-program k level call) s
         (now (nodes .entry)) (now (nodes .exit)) (now (work .entry)) (now (work .exit)) r ⌝ }
@@ -78,15 +87,15 @@ fn perform(
         RelationCall::Xor(a, b) => relations::xor(nodes, work, s, level, a, b),
         RelationCall::Difference(a, b) => relations::difference(nodes, work, s, level, a, b),
         RelationCall::Complement(a) => relations::complement(nodes, work, s, level, a),
-        RelationCall::Sequence(a, b) => products::sequence(nodes, work, s, level, a, b),
-        RelationCall::Star(a) => products::star(nodes, work, s, level, a),
+        RelationCall::Sequence(a, b) => relation_products::sequence(nodes, work, s, level, a, b),
+        RelationCall::Star(a) => relation_products::star(nodes, work, s, level, a),
         RelationCall::Flip(a) => relations::flip(nodes, work, s, level, a),
         RelationCall::Test(var, value) => relations::fields::test(
             nodes,
             work,
             s,
             k,
-            memory::narrow(var),
+            memory::as_level(var),
             value == 1,
         ),
         RelationCall::Assign(var, value) => relations::fields::assign(
@@ -94,32 +103,32 @@ fn perform(
             work,
             s,
             k,
-            memory::narrow(var),
+            memory::as_level(var),
             value == 1,
         ),
-        RelationCall::NaiveForward(a) => products::naive_forward(nodes, work, s, level, a),
-        RelationCall::Backward(a) => products::backward(nodes, work, s, level, a),
+        RelationCall::NaiveForward(a) => relation_products::naive_forward(nodes, work, s, level, a),
+        RelationCall::Backward(a) => relation_products::backward(nodes, work, s, level, a),
     }
 }
 
 // Checks a call on a store, and runs it.
-fn judged(
+fn run_checked(
     relations: &mut [u32],
     sets: &[u32],
     work: &mut [u32],
     call: RelationCall,
-) -> outcomes::Answer
-    requires { ⌜ Accepted rel (memories (now relations) (now sets)) (now work) ⌝ }
-    ensures { λ r. ⌜ told r (memories (now (relations .exit)) (now (sets .entry)))
+) -> call_rules::Answer
+    requires { ⌜ CheckedStore rel (memories (now relations) (now sets)) (now work) ⌝ }
+    ensures { λ r. ⌜ outcome r (memories (now (relations .exit)) (now (sets .entry)))
         ≡ step (relation-call call) (memories (now (relations .entry)) (now (sets .entry))) ⌝ }
 {
     let k = relations[FIELDS];
-    let n = memory::wide(relations[RELATION_COUNT]);
+    let n = memory::as_index(relations[RELATION_COUNT]);
     let check = check(&relations[RELATION_HEAD..], n, k, call);
     match check {
-        outcomes::Check::No(r) => outcomes::Answer::Declined(r),
-        outcomes::Check::Level(l) => {
-            let s = memory::Arena {
+        call_rules::Check::No(r) => call_rules::Answer::Declined(r),
+        call_rules::Check::Level(l) => {
+            let s = memory::RunState {
                 ok: true,
                 n: n,
                 h: 0,
@@ -128,11 +137,11 @@ fn judged(
                 &mut relations[RELATION_HEAD..],
                 work,
                 s,
-                memory::narrow(k),
-                memory::narrow(l),
+                memory::as_level(k),
+                memory::as_level(l),
                 call,
             );
-            outcomes::finish::finish(relations, RELATION_COUNT, RELATION_HEAD, 4, n, r)
+            call_rules::finish::finish(relations, RELATION_COUNT, RELATION_HEAD, 4, n, r)
         }
     }
 }
@@ -143,15 +152,15 @@ pub fn relation_call(
     sets: &[u32],
     work: &mut [u32],
     call: RelationCall,
-) -> outcomes::Answer
+) -> call_rules::Answer
     ensures { λ r. ⌜ Meets (step (relation-call call) (memories (now (relations .entry)) (now (sets .entry))))
         (memories (now (relations .exit)) (now (sets .entry))) (now (work .entry)) (now (work .exit)) r ⌝ }
 {
-    if !judging::is_store(relations, sets, work, false) {
-        nodes::clear(work);
-        return outcomes::Answer::Declined(outcomes::Refusal::NotStore);
+    if !store_check::is_store(relations, sets, work, false) {
+        memory::clear(work);
+        return call_rules::Answer::Declined(call_rules::Refusal::NotStore);
     }
-    let r = judged(relations, sets, work, call);
-    nodes::clear(work);
+    let r = run_checked(relations, sets, work, call);
+    memory::clear(work);
     r
 }

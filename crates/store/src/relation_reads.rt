@@ -1,15 +1,15 @@
 // The calls on relations that add nothing.
 ghost use mathlib.Core.Path.{_≡_};
 ghost use Prim.Native.Nat.{_≤_};
-ghost use Rattle.nodes.specs.Store.{rel};
-ghost use Rattle.judging.specs.Memory.{memories};
-ghost use Rattle.outcomes.specs.Outcome.{told};
-ghost use Rattle.outcomes.specs.Promise.{Meets};
+ghost use Rattle.model.specs.Store.{rel};
+ghost use Rattle.store_check.specs.Memory.{memories};
+ghost use Rattle.call_rules.specs.Outcome.{outcome};
+ghost use Rattle.call_rules.specs.Promise.{Meets};
 ghost use Rattle.store.specs.Calls.{relation-read, step};
 ghost use Rattle.store.specs.RelationCalls.{relation-read-declines, relation-read-answer};
-ghost use Rattle.outcomes.specs.Checking.{Checks, Answered, Accepted};
+ghost use Rattle.call_rules.specs.Checking.{Checks, Answered, CheckedStore};
 ghost use Rattle.store.specs.RelationChecking.{RelationReadSafe, WalksPair};
-use judging::head::*;
+use store_check::head::*;
 
 // A call with its arguments, after spp.rs; `relates` has a relation, an input and an output.
 pub enum RelationRead {
@@ -19,14 +19,14 @@ pub enum RelationRead {
 }
 
 // The level of a call's operands on the first n nodes.
-fn check(nodes: &[u32], n: usize, k: u32, call: RelationRead) -> outcomes::Check
+fn check(nodes: &[u32], n: usize, k: u32, call: RelationRead) -> call_rules::Check
     requires { ⌜ k ≤ 32 ⌝ }
     ensures { λ r. ⌜ Checks rel (now (nodes .entry)) n k (λ S. relation-read-declines k call S) r ⌝ }
 {
     match call {
-        RelationRead::Get(a) => outcomes::operands::parent(nodes, 4, n, k, a),
-        RelationRead::IsZero(a) => outcomes::operands::one(nodes, 4, n, k, a),
-        RelationRead::Relates(a, input, output) => outcomes::operands::packets(
+        RelationRead::Get(a) => call_rules::operands::parent(nodes, 4, n, k, a),
+        RelationRead::IsZero(a) => call_rules::operands::one(nodes, 4, n, k, a),
+        RelationRead::Relates(a, input, output) => call_rules::operands::packets(
             nodes,
             n,
             k,
@@ -44,12 +44,12 @@ fn relates(nodes: &[u32], level: u8, a: u32, input: u32, output: u32) -> bool
 {
     let mut h = a;
     let mut l = level;
-    let mut unit = outcomes::operands::power(level);
+    let mut unit = call_rules::operands::power(level);
     while l > 0 {
         unit = unit / 2;
-        let i = outcomes::operands::wide(input) / unit % 2;
-        let o = outcomes::operands::wide(output) / unit % 2;
-        h = memory::words::child_of(nodes, 4, h, (2 * i + o) as usize);
+        let i = call_rules::operands::as_u64(input) / unit % 2;
+        let o = call_rules::operands::as_u64(output) / unit % 2;
+        h = memory::property_words::child_of(nodes, 4, h, (2 * i + o) as usize);
         l -= 1;
     }
     h == 1
@@ -62,7 +62,7 @@ fn answer(
     n: usize,
     level: u8,
     call: RelationRead,
-) -> outcomes::Answer
+) -> call_rules::Answer
     requires { ⌜ level ≤ 32 ⌝ }
     ensures { λ r. ⌜ Answered rel (now (nodes .entry)) (now (work .entry)) n
         (λ S. RelationReadSafe S level call) (λ S. relation-read-answer S level call) r ⌝ }
@@ -70,18 +70,18 @@ fn answer(
     match call {
         RelationRead::Get(a) => {
             let x = relations::get(nodes, a);
-            outcomes::Answer::RelationNode(x.x00, x.x01, x.x10, x.x11)
+            call_rules::Answer::RelationNode(x.x00, x.x01, x.x10, x.x11)
         }
         RelationRead::IsZero(a) => {
-            let s = memory::Arena {
+            let s = memory::RunState {
                 ok: true,
                 n: n,
                 h: 0,
             };
             let r = relations::is_zero(nodes, work, s, level, a);
-            outcomes::Answer::Truth(r.h == 1)
+            call_rules::Answer::Truth(r.h == 1)
         }
-        RelationRead::Relates(a, input, output) => outcomes::Answer::Truth(relates(
+        RelationRead::Relates(a, input, output) => call_rules::Answer::Truth(relates(
             nodes,
             level,
             a,
@@ -92,21 +92,26 @@ fn answer(
 }
 
 // Checks a call on a store, and answers it.
-fn judged(relations: &[u32], sets: &[u32], work: &mut [u32], call: RelationRead) -> outcomes::Answer
-    requires { ⌜ Accepted rel (memories (now relations) (now sets)) (now work) ⌝ }
-    ensures { λ r. ⌜ told r (memories (now (relations .entry)) (now (sets .entry)))
+fn run_checked(
+    relations: &[u32],
+    sets: &[u32],
+    work: &mut [u32],
+    call: RelationRead,
+) -> call_rules::Answer
+    requires { ⌜ CheckedStore rel (memories (now relations) (now sets)) (now work) ⌝ }
+    ensures { λ r. ⌜ outcome r (memories (now (relations .entry)) (now (sets .entry)))
         ≡ step (relation-read call) (memories (now (relations .entry)) (now (sets .entry))) ⌝ }
 {
     let k = relations[FIELDS];
-    let n = memory::wide(relations[RELATION_COUNT]);
+    let n = memory::as_index(relations[RELATION_COUNT]);
     let check = check(&relations[RELATION_HEAD..], n, k, call);
     match check {
-        outcomes::Check::No(r) => outcomes::Answer::Declined(r),
-        outcomes::Check::Level(l) => answer(
+        call_rules::Check::No(r) => call_rules::Answer::Declined(r),
+        call_rules::Check::Level(l) => answer(
             &relations[RELATION_HEAD..],
             work,
             n,
-            memory::narrow(l),
+            memory::as_level(l),
             call,
         ),
     }
@@ -118,15 +123,15 @@ pub fn relation_read(
     sets: &[u32],
     work: &mut [u32],
     call: RelationRead,
-) -> outcomes::Answer
+) -> call_rules::Answer
     ensures { λ r. ⌜ Meets (step (relation-read call) (memories (now (relations .entry)) (now (sets .entry))))
         (memories (now (relations .entry)) (now (sets .entry))) (now (work .entry)) (now (work .exit)) r ⌝ }
 {
-    if !judging::is_store(relations, sets, work, false) {
-        nodes::clear(work);
-        return outcomes::Answer::Declined(outcomes::Refusal::NotStore);
+    if !store_check::is_store(relations, sets, work, false) {
+        memory::clear(work);
+        return call_rules::Answer::Declined(call_rules::Refusal::NotStore);
     }
-    let r = judged(relations, sets, work, call);
-    nodes::clear(work);
+    let r = run_checked(relations, sets, work, call);
+    memory::clear(work);
     r
 }

@@ -1,15 +1,15 @@
 // The calls that may add sets.
 ghost use mathlib.Core.Path.{_≡_};
-ghost use Rattle.nodes.specs.Store.{set};
-ghost use Rattle.memory.specs.Arena.{Performs};
-ghost use Rattle.judging.specs.Memory.{memories};
-ghost use Rattle.outcomes.specs.Outcome.{told};
-ghost use Rattle.outcomes.specs.Promise.{Meets};
+ghost use Rattle.model.specs.Store.{set};
+ghost use Rattle.memory.specs.Performing.{Performs};
+ghost use Rattle.store_check.specs.Memory.{memories};
+ghost use Rattle.call_rules.specs.Outcome.{outcome};
+ghost use Rattle.call_rules.specs.Promise.{Meets};
 ghost use Rattle.store.specs.Calls.{set-call, step};
 ghost use Rattle.store.specs.SetCalls.{set-declines, set-program};
-ghost use Rattle.outcomes.specs.Checking.{Checks, Accepted};
+ghost use Rattle.call_rules.specs.Checking.{Checks, CheckedStore};
 ghost use Rattle.store.specs.SetChecking.{SetFieldFits};
-use judging::head::*;
+use store_check::head::*;
 
 // A call with its arguments, after sp.rs: handles, and for `test` and `ifelse` a field first; a value is 0 or 1.
 pub enum SetCall {
@@ -25,19 +25,19 @@ pub enum SetCall {
 }
 
 // Whether a call may run on the first n nodes.
-fn check(nodes: &[u32], n: usize, k: u32, call: SetCall) -> outcomes::Check
+fn check(nodes: &[u32], n: usize, k: u32, call: SetCall) -> call_rules::Check
     ensures { λ r. ⌜ Checks set (now (nodes .entry)) n k (λ S. set-declines k call S) r ⌝ }
 {
     match call {
-        SetCall::Mk(a, b) => outcomes::operands::children(nodes, 2, n, k, a, b),
-        SetCall::Zero => outcomes::Check::Level(k),
-        SetCall::One => outcomes::Check::Level(k),
-        SetCall::Union(a, b) => outcomes::operands::two(nodes, 2, n, k, a, b),
-        SetCall::Intersect(a, b) => outcomes::operands::two(nodes, 2, n, k, a, b),
-        SetCall::Xor(a, b) => outcomes::operands::two(nodes, 2, n, k, a, b),
-        SetCall::Difference(a, b) => outcomes::operands::two(nodes, 2, n, k, a, b),
-        SetCall::Test(var, value) => outcomes::operands::field(k, var, value),
-        SetCall::Ifelse(var, t, e) => outcomes::operands::branches(nodes, 2, n, k, var, t, e),
+        SetCall::Mk(a, b) => call_rules::operands::two_children(nodes, 2, n, k, a, b),
+        SetCall::Zero => call_rules::Check::Level(k),
+        SetCall::One => call_rules::Check::Level(k),
+        SetCall::Union(a, b) => call_rules::operands::two(nodes, 2, n, k, a, b),
+        SetCall::Intersect(a, b) => call_rules::operands::two(nodes, 2, n, k, a, b),
+        SetCall::Xor(a, b) => call_rules::operands::two(nodes, 2, n, k, a, b),
+        SetCall::Difference(a, b) => call_rules::operands::two(nodes, 2, n, k, a, b),
+        SetCall::Test(var, value) => call_rules::operands::field(k, var, value),
+        SetCall::Ifelse(var, t, e) => call_rules::operands::branches(nodes, 2, n, k, var, t, e),
     }
 }
 
@@ -45,11 +45,11 @@ fn check(nodes: &[u32], n: usize, k: u32, call: SetCall) -> outcomes::Check
 fn perform(
     nodes: &mut [u32],
     work: &mut [u32],
-    s: memory::Arena,
+    s: memory::RunState,
     k: u8,
     level: u8,
     call: SetCall,
-) -> memory::Arena
+) -> memory::RunState
     requires { ⌜ SetFieldFits call ⌝ }
     ensures { λ r. ⌜ Performs set (set-program k level call) s (now (nodes .entry)) (now (nodes .exit)) (now (work .entry)) (now (work .exit)) r ⌝ }
 {
@@ -66,7 +66,7 @@ fn perform(
             work,
             s,
             k,
-            memory::narrow(var),
+            memory::as_level(var),
             value == 1,
         ),
         SetCall::Ifelse(var, t, e) => sets::fields::ifelse(
@@ -74,7 +74,7 @@ fn perform(
             work,
             s,
             level,
-            memory::narrow(var),
+            memory::as_level(var),
             t,
             e,
         ),
@@ -82,18 +82,23 @@ fn perform(
 }
 
 // Checks a call on a store, and runs it.
-fn judged(relations: &[u32], sets: &mut [u32], work: &mut [u32], call: SetCall) -> outcomes::Answer
-    requires { ⌜ Accepted set (memories (now relations) (now sets)) (now work) ⌝ }
-    ensures { λ r. ⌜ told r (memories (now (relations .entry)) (now (sets .exit)))
+fn run_checked(
+    relations: &[u32],
+    sets: &mut [u32],
+    work: &mut [u32],
+    call: SetCall,
+) -> call_rules::Answer
+    requires { ⌜ CheckedStore set (memories (now relations) (now sets)) (now work) ⌝ }
+    ensures { λ r. ⌜ outcome r (memories (now (relations .entry)) (now (sets .exit)))
         ≡ step (set-call call) (memories (now (relations .entry)) (now (sets .entry))) ⌝ }
 {
     let k = relations[FIELDS];
-    let n = memory::wide(sets[SET_COUNT]);
+    let n = memory::as_index(sets[SET_COUNT]);
     let check = check(&sets[SET_HEAD..], n, k, call);
     match check {
-        outcomes::Check::No(r) => outcomes::Answer::Declined(r),
-        outcomes::Check::Level(l) => {
-            let s = memory::Arena {
+        call_rules::Check::No(r) => call_rules::Answer::Declined(r),
+        call_rules::Check::Level(l) => {
+            let s = memory::RunState {
                 ok: true,
                 n: n,
                 h: 0,
@@ -102,11 +107,11 @@ fn judged(relations: &[u32], sets: &mut [u32], work: &mut [u32], call: SetCall) 
                 &mut sets[SET_HEAD..],
                 work,
                 s,
-                memory::narrow(k),
-                memory::narrow(l),
+                memory::as_level(k),
+                memory::as_level(l),
                 call,
             );
-            outcomes::finish::finish(sets, SET_COUNT, SET_HEAD, 2, n, r)
+            call_rules::finish::finish(sets, SET_COUNT, SET_HEAD, 2, n, r)
         }
     }
 }
@@ -117,15 +122,15 @@ pub fn set_call(
     sets: &mut [u32],
     work: &mut [u32],
     call: SetCall,
-) -> outcomes::Answer
+) -> call_rules::Answer
     ensures { λ r. ⌜ Meets (step (set-call call) (memories (now (relations .entry)) (now (sets .entry))))
         (memories (now (relations .entry)) (now (sets .exit))) (now (work .entry)) (now (work .exit)) r ⌝ }
 {
-    if !judging::is_store(relations, sets, work, true) {
-        nodes::clear(work);
-        return outcomes::Answer::Declined(outcomes::Refusal::NotStore);
+    if !store_check::is_store(relations, sets, work, true) {
+        memory::clear(work);
+        return call_rules::Answer::Declined(call_rules::Refusal::NotStore);
     }
-    let r = judged(relations, sets, work, call);
-    nodes::clear(work);
+    let r = run_checked(relations, sets, work, call);
+    memory::clear(work);
     r
 }

@@ -1,14 +1,14 @@
 // The calls on sets that add nothing.
 ghost use mathlib.Core.Path.{_≡_};
-ghost use Rattle.nodes.specs.Store.{set};
-ghost use Rattle.judging.specs.Memory.{memories};
-ghost use Rattle.outcomes.specs.Outcome.{told};
-ghost use Rattle.outcomes.specs.Promise.{Meets};
+ghost use Rattle.model.specs.Store.{set};
+ghost use Rattle.store_check.specs.Memory.{memories};
+ghost use Rattle.call_rules.specs.Outcome.{outcome};
+ghost use Rattle.call_rules.specs.Promise.{Meets};
 ghost use Rattle.store.specs.Calls.{set-read, step};
 ghost use Rattle.store.specs.SetCalls.{set-read-declines, set-read-answer};
-ghost use Rattle.outcomes.specs.Checking.{Checks, Answered, Accepted};
+ghost use Rattle.call_rules.specs.Checking.{Checks, Answered, CheckedStore};
 ghost use Rattle.store.specs.SetChecking.{SetReadSafe};
-use judging::head::*;
+use store_check::head::*;
 
 // A call with its arguments, after sp.rs.
 pub enum SetRead {
@@ -19,22 +19,22 @@ pub enum SetRead {
 }
 
 // The level of a call's operands on the first n nodes.
-fn check(nodes: &[u32], n: usize, k: u32, call: SetRead) -> outcomes::Check
+fn check(nodes: &[u32], n: usize, k: u32, call: SetRead) -> call_rules::Check
     ensures { λ r. ⌜ Checks set (now (nodes .entry)) n k (λ S. set-read-declines k call S) r ⌝ }
 {
     match call {
-        SetRead::Get(a) => outcomes::operands::parent(nodes, 2, n, k, a),
-        SetRead::Complement(a) => outcomes::operands::one(nodes, 2, n, k, a),
-        SetRead::IsZero(a) => outcomes::operands::one(nodes, 2, n, k, a),
-        SetRead::Intersects(a, b) => outcomes::operands::two(nodes, 2, n, k, a, b),
+        SetRead::Get(a) => call_rules::operands::parent(nodes, 2, n, k, a),
+        SetRead::Complement(a) => call_rules::operands::one(nodes, 2, n, k, a),
+        SetRead::IsZero(a) => call_rules::operands::one(nodes, 2, n, k, a),
+        SetRead::Intersects(a, b) => call_rules::operands::two(nodes, 2, n, k, a, b),
     }
 }
 
 // The answer of a call whose operands are of this level, among n nodes.
-fn answer(nodes: &[u32], work: &mut [u32], n: usize, level: u8, call: SetRead) -> outcomes::Answer
+fn answer(nodes: &[u32], work: &mut [u32], n: usize, level: u8, call: SetRead) -> call_rules::Answer
     ensures { λ r. ⌜ Answered set (now (nodes .entry)) (now (work .entry)) n (λ S. SetReadSafe S level call) (λ S. set-read-answer S level call) r ⌝ }
 {
-    let s = memory::Arena {
+    let s = memory::RunState {
         ok: true,
         n: n,
         h: 0,
@@ -42,32 +42,43 @@ fn answer(nodes: &[u32], work: &mut [u32], n: usize, level: u8, call: SetRead) -
     match call {
         SetRead::Get(a) => {
             let x = sets::get(nodes, a);
-            outcomes::Answer::SetNode(x.x0, x.x1)
+            call_rules::Answer::SetNode(x.x0, x.x1)
         }
-        SetRead::Complement(a) => outcomes::Answer::Handle(memory::words::other(a)),
+        SetRead::Complement(a) => call_rules::Answer::Handle(memory::property_words::other(a)),
         SetRead::IsZero(a) => {
             let r = sets::is_zero(nodes, work, s, level, a);
-            outcomes::Answer::Truth(r.h == 1)
+            call_rules::Answer::Truth(r.h == 1)
         }
         SetRead::Intersects(a, b) => {
             let r = sets::intersects(nodes, work, s, level, a, b);
-            outcomes::Answer::Truth(r.h == 1)
+            call_rules::Answer::Truth(r.h == 1)
         }
     }
 }
 
 // Checks a call on a store, and answers it.
-fn judged(relations: &[u32], sets: &[u32], work: &mut [u32], call: SetRead) -> outcomes::Answer
-    requires { ⌜ Accepted set (memories (now relations) (now sets)) (now work) ⌝ }
-    ensures { λ r. ⌜ told r (memories (now (relations .entry)) (now (sets .entry)))
+fn run_checked(
+    relations: &[u32],
+    sets: &[u32],
+    work: &mut [u32],
+    call: SetRead,
+) -> call_rules::Answer
+    requires { ⌜ CheckedStore set (memories (now relations) (now sets)) (now work) ⌝ }
+    ensures { λ r. ⌜ outcome r (memories (now (relations .entry)) (now (sets .entry)))
         ≡ step (set-read call) (memories (now (relations .entry)) (now (sets .entry))) ⌝ }
 {
     let k = relations[FIELDS];
-    let n = memory::wide(sets[SET_COUNT]);
+    let n = memory::as_index(sets[SET_COUNT]);
     let check = check(&sets[SET_HEAD..], n, k, call);
     match check {
-        outcomes::Check::No(r) => outcomes::Answer::Declined(r),
-        outcomes::Check::Level(l) => answer(&sets[SET_HEAD..], work, n, memory::narrow(l), call),
+        call_rules::Check::No(r) => call_rules::Answer::Declined(r),
+        call_rules::Check::Level(l) => answer(
+            &sets[SET_HEAD..],
+            work,
+            n,
+            memory::as_level(l),
+            call,
+        ),
     }
 }
 
@@ -77,15 +88,15 @@ pub fn set_read(
     sets: &[u32],
     work: &mut [u32],
     call: SetRead,
-) -> outcomes::Answer
+) -> call_rules::Answer
     ensures { λ r. ⌜ Meets (step (set-read call) (memories (now (relations .entry)) (now (sets .entry))))
         (memories (now (relations .entry)) (now (sets .entry))) (now (work .entry)) (now (work .exit)) r ⌝ }
 {
-    if !judging::is_store(relations, sets, work, true) {
-        nodes::clear(work);
-        return outcomes::Answer::Declined(outcomes::Refusal::NotStore);
+    if !store_check::is_store(relations, sets, work, true) {
+        memory::clear(work);
+        return call_rules::Answer::Declined(call_rules::Refusal::NotStore);
     }
-    let r = judged(relations, sets, work, call);
-    nodes::clear(work);
+    let r = run_checked(relations, sets, work, call);
+    memory::clear(work);
     r
 }

@@ -5,9 +5,9 @@ use Prim.Native.Nat.{ℕ, _+_, _-_, _*_, _≤_}
 use native.Mathlib.Omega.{arith}
 use lib.ListN.{length, set as put}
 use borrow.Author.Needs.{needs}
-use Rattle.judging.specs.Commit.{cleared}
-use Rattle.judging.proofs.Rooms.{part-ends}
-use Rattle.judging.proofs.Clearing.{cleared-by}
+use Rattle.store_check.specs.Commit.{cleared}
+use Rattle.store_check.proofs.Rooms.{part-ends}
+use Rattle.store_check.proofs.Clearing.{cleared-by}
 use Rattle.new_store.proofs.begin.Statement.{statement}
 use Rattle.new_store.proofs.begin.Tie as tie
 

@@ -1,4 +1,4 @@
--- `check` declines as `new` does, or tells that the constants fit.
+-- `check` declines as `new` does, or says that the constants fit.
 use mathlib.Core.Path.{refl}
 use native.Mathlib.Omega.{arith}
 use borrow.Author.Needs.{needs}
@@ -20,7 +20,7 @@ returns-4 c =
     let c3 = c .before .before .before in
     let c4 = c3 .before in
     let c5 = c4 .before in
-    λ M e f. full-relations _ _ _ M e f (c5 .if1 .left) (c4 .if2 .left) (c3 .if3 .left) _ _ (c .before .before .wide .ensures)
+    λ M e f. full-relations _ _ _ M e f (c5 .if1 .left) (c4 .if2 .left) (c3 .if3 .left) _ _ (c .before .before .as-index .ensures)
     (c .before .places-of .ensures) (c .if4 .taken)
 
 returns-5 : tie.Need-returns-5
@@ -29,7 +29,7 @@ returns-5 c =
     let c5 = c4 .before in
     let c6 = c5 .before in
     let c7 = c6 .before in
-    λ M e f. full-sets _ _ _ M e f (c7 .if1 .left) (c6 .if2 .left) (c5 .if3 .left) _ _ (c4 .wide .ensures) (c .before .places-of2 .ensures)
+    λ M e f. full-sets _ _ _ M e f (c7 .if1 .left) (c6 .if2 .left) (c5 .if3 .left) _ _ (c4 .as-index .ensures) (c .before .places-of2 .ensures)
     (c .if5 .taken)
 
 returns-6 : tie.Need-returns-6
@@ -43,9 +43,9 @@ returns-6 c =
       c7 .if1 .left,
       c6 .if2 .left,
       c5 .if3 .left,
-      omega (arith, c .before .before .if4 .left, c4 .wide .ensures, c3 .places-of .ensures),
+      omega (arith, c .before .before .if4 .left, c4 .as-index .ensures, c3 .places-of .ensures),
       omega
-          (arith, c .if5 .left, c4 .wide .ensures, c .before .places-of2 .ensures),
+          (arith, c .if5 .left, c4 .as-index .ensures, c .before .places-of2 .ensures),
     )
 
 pub check-spec : {M : Type 1} → statement M

@@ -1,8 +1,8 @@
 -- `fill` makes the constants of both kinds.
 use native.Mathlib.Omega.{arith}
 use borrow.Author.Needs.{needs}
-use Rattle.nodes.specs.Store.{set, rel}
-use Rattle.judging.specs.Memory.{memories}
+use Rattle.model.specs.Store.{set, rel}
+use Rattle.store_check.specs.Memory.{memories}
 use Rattle.new_store.proofs.Filling.{fill-within-sets, fill-within-relations, filled}
 use Rattle.new_store.proofs.fill.Statement.{statement}
 use Rattle.new_store.proofs.fill.Tie as tie

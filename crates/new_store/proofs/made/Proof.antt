@@ -20,7 +20,7 @@ fill-requires c κs =
     let b = c8 .pre in
     record {
       store = b .store;
-      wide = b .wide;
+      width = b .width;
       none = b .none;
       sets = b .sets;
       relations = b .relations;

@@ -1,17 +1,17 @@
--- `new` comes to its outcome for any numbers in the memories, and leaves the working memory zero.
+-- `new` has its outcome for any numbers in the memories, and leaves the working memory zero.
 use mathlib.Core.Path.{refl, ap, _∙_, subst}
 use native.Mathlib.Omega.{arith}
 use lib.ListN.{length, replicate, length-set}
 use borrow.Author.Needs.{needs}
-use Rattle.judging.specs.Memory.{memories}
+use Rattle.store_check.specs.Memory.{memories}
 use Rattle.new_store.specs.Creating.{NewChecked}
-use Rattle.outcomes.specs.declared.Check.the-variants.{Level}
+use Rattle.call_rules.specs.declared.Check.the-variants.{Level}
 use Rattle.new_store.proofs.Creating.{begun-here, created-new}
-use Rattle.judging.proofs.Whole.{still-clear}
+use Rattle.store_check.proofs.Whole.{still-clear}
 use Rattle.new_store.proofs.new.Statement.{statement}
 use Rattle.new_store.proofs.new.Tie as tie
 
--- what `check` told, where `new` goes on
+-- what `check` says where `new` is not declined
 goes : (c : tie.After-check3) → (let a = c .before .before .before .before .before .before .before .before .before .before .args in
     NewChecked (length (a .relations .now)) (length (a .sets .now)) (a .k) (Level (c .check3 .given .0 .0)))
 goes c = subst (NewChecked _ _ _) (c .check3 .given .1) (c .before .before .check .ensures)
@@ -39,8 +39,8 @@ slice-write-relations c =
     let c9 = c6 .before .before .before in
     let h = goes (c9) .2 in omega (arith, h, c6 .begin .kept .0)
 
-narrow-requires : tie.Need-narrow-requires
-narrow-requires c κs =
+as-level-requires : tie.Need-as-level-requires
+as-level-requires c κs =
     let c12 = c .before .before .before .before .before .before .before .before .before .before .before .before in
     let t = goes (c12) in omega (arith, t .0, t .1)
 
@@ -51,7 +51,7 @@ made-requires c κs =
     let c13 = c10 .before .before .before in
     let c18 = c13 .before .before .before .before .before in
     let c23 = c18 .before .before .before .before .before in
-    let a = c23 .args in begun-here (memories (a .relations .now) (a .sets .now)) (a .k) _ _ (goes (c13)) (c .narrow .ensures) _ _
+    let a = c23 .args in begun-here (memories (a .relations .now) (a .sets .now)) (a .k) _ _ (goes (c13)) (c .as-level .ensures) _ _
     (c10 .begin .ensures) (c6 .begin2 .ensures) _ (still-clear (length (a .work .now)) _ (c18 .clear .ensures))
 
 same-length-2 : tie.Need-same-length-2
@@ -71,7 +71,7 @@ returns-2 c =
     let c25 = c20 .before .before .before .before .before in
     let c30 = c25 .before .before .before .before .before in
     let a = c30 .args in (
-      created-new (memories (a .relations .now) (a .sets .now)) (a .k) _ _ (goes (c20)) (c7 .narrow .ensures) _ _
+      created-new (memories (a .relations .now) (a .sets .now)) (a .k) _ _ (goes (c20)) (c7 .as-level .ensures) _ _
           (c17 .begin .ensures) (c13 .begin2 .ensures) _ _ (c6 .made .ensures .0),
       c6 .made .ensures .1 ∙ ap (λ n. replicate n 0) (c25 .clear .kept .0),
     )
@@ -87,7 +87,7 @@ new-spec =
     begin-requires
     begin-requires-2
     slice-write-relations
-    narrow-requires
+    as-level-requires
     made-requires
     (λ c. search needs)
     returns

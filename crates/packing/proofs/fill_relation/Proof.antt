@@ -1,6 +1,6 @@
 -- `fill_relation` by the cases of an answer.
 use mathlib.Core.Path.{sym, ap}
-use Rattle.outcomes.specs.declared.Answer.{Answer}
+use Rattle.call_rules.specs.declared.Answer.{Answer}
 use Rattle.packing.specs.Packed.{filled-relation}
 use borrow.Author.Needs.{needs}
 use Rattle.packing.proofs.fill_relation.Statement.{statement}

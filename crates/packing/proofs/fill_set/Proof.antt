@@ -1,6 +1,6 @@
 -- `fill_set` by the cases of an answer.
 use mathlib.Core.Path.{sym, ap}
-use Rattle.outcomes.specs.declared.Answer.{Answer}
+use Rattle.call_rules.specs.declared.Answer.{Answer}
 use Rattle.packing.specs.Packed.{filled-set}
 use borrow.Author.Needs.{needs}
 use Rattle.packing.proofs.fill_set.Statement.{statement}

@@ -2,7 +2,7 @@
 use mathlib.Core.Path.{sym, ap, _∙_}
 use Prim.Native.Nat.{ℕ, _*_}
 use borrow.Author.Needs.{needs}
-use Rattle.outcomes.specs.declared.Answer.the-variants.{Truth}
+use Rattle.call_rules.specs.declared.Answer.the-variants.{Truth}
 use Rattle.packing.specs.Packed.{packed}
 use Rattle.packing.proofs.Halves.{low, high}
 use Rattle.packing.proofs.pack.Statement.{statement}

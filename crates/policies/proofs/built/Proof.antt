@@ -1,8 +1,8 @@
--- `built` comes to the text's outcome: the build pass runs its policy's program, and `commit` ends it.
+-- `built` has the text's outcome: the build pass runs its policy's program, and `commit` ends it.
 use native.Mathlib.Omega.{arith}
 use borrow.Author.Needs.{needs}
-use Rattle.nodes.specs.Store.{rel}
-use Rattle.judging.specs.Memory.{memories}
+use Rattle.model.specs.Store.{rel}
+use Rattle.store_check.specs.Memory.{memories}
 use Rattle.policies.proofs.BuiltTexts.{fitted, full, built-within, built-ran}
 use Rattle.policies.proofs.built.Statement.{statement}
 use Rattle.policies.proofs.built.Tie as tie
@@ -11,8 +11,8 @@ slice-read-k : tie.Need-slice-read-k
 slice-read-k c =
     let h = c .before .before .before .before .before .pre .0 .store .room rel .headed in omega arith
 
-slice-read-wide : tie.Need-slice-read-wide
-slice-read-wide c =
+slice-read-as-index : tie.Need-slice-read-as-index
+slice-read-as-index c =
     let h = c .before .before .before .before .before .before .pre .0 .store .room rel .headed in omega arith
 
 sub-build : tie.Need-sub-build
@@ -25,8 +25,8 @@ part-build-start c =
     let c7 = c .before .before .before .before .before .before .before in
     let h = c7 .pre .0 .store .room rel .headed in omega arith
 
-narrow-requires : tie.Need-narrow-requires
-narrow-requires c κs =
+as-level-requires : tie.Need-as-level-requires
+as-level-requires c κs =
     let c9 = c .before .before .before .before .before .before .before .before .before in
     let h = c9 .pre .0 .store .few in omega arith
 
@@ -38,8 +38,8 @@ commit-requires c κs =
     let c16 = c9 .before .before .before .before .before .before .before in
     let a = c16 .args in
     let y = c16 .pre in
-    let t = built-within (a .text .now) (memories (a .relations .now) (a .sets .now)) (a .work .now) (y .0) _ (c9 .wide .ensures)
-    (y .1) (y .2) _ (c6 .narrow .ensures) _ _ _ (c5 .build .ensures) in (omega arith, t .0, t .1, t .2)
+    let t = built-within (a .text .now) (memories (a .relations .now) (a .sets .now)) (a .work .now) (y .0) _ (c9 .as-index .ensures)
+    (y .1) (y .2) _ (c6 .as-level .ensures) _ _ _ (c5 .build .ensures) in (omega arith, t .0, t .1, t .2)
 
 returns : tie.Need-returns
 returns c =
@@ -50,8 +50,8 @@ returns c =
     let c20 = c13 .before .before .before .before .before .before .before in
     let a = c20 .args in
     let y = c20 .pre in
-    built-ran (a .text .now) (memories (a .relations .now) (a .sets .now)) (a .work .now) (y .0) _ (c13 .wide .ensures)
-    (y .1) (y .2) _ (c10 .narrow .ensures) _ _ _ (c9 .build .ensures) _ _
+    built-ran (a .text .now) (memories (a .relations .now) (a .sets .now)) (a .work .now) (y .0) _ (c13 .as-index .ensures)
+    (y .1) (y .2) _ (c10 .as-level .ensures) _ _ _ (c9 .build .ensures) _ _
     (c3 .commit .ensures) (fitted (c .if1 .taken))
 
 returns-2 : tie.Need-returns-2
@@ -63,8 +63,8 @@ returns-2 c =
     let c20 = c13 .before .before .before .before .before .before .before in
     let a = c20 .args in
     let y = c20 .pre in
-    built-ran (a .text .now) (memories (a .relations .now) (a .sets .now)) (a .work .now) (y .0) _ (c13 .wide .ensures)
-    (y .1) (y .2) _ (c10 .narrow .ensures) _ _ _ (c9 .build .ensures) _ _
+    built-ran (a .text .now) (memories (a .relations .now) (a .sets .now)) (a .work .now) (y .0) _ (c13 .as-index .ensures)
+    (y .1) (y .2) _ (c10 .as-level .ensures) _ _ _ (c9 .build .ensures) _ _
     (c3 .commit .ensures) (full (c .if1 .left))
 
 pub built-spec : {M : Type 1} → statement M
@@ -72,12 +72,12 @@ built-spec =
     tie.close
     (tie.spec
     slice-read-k
-    slice-read-wide
+    slice-read-as-index
     (λ c κs. search needs)
     sub-build
     part-build-start
     (λ c. search needs)
-    narrow-requires
+    as-level-requires
     (λ c κs. search needs)
     commit-requires
     (λ c. search needs)

@@ -1,9 +1,9 @@
--- `policy` comes to the text's outcome for any numbers in the memories, and leaves the working memory zero.
+-- `policy` has the text's outcome for any numbers in the memories, and leaves the working memory zero.
 use mathlib.Core.Path.{sym, ap, _∙_}
 use lib.ListN.{replicate}
 use borrow.Author.Needs.{needs}
 use borrow.Author.Tests.{not-true, not-false}
-use Rattle.outcomes.proofs.Running.{judged-ready}
+use Rattle.call_rules.proofs.Running.{checked-ready}
 use Rattle.policies.proofs.BuiltTexts.{policy-not-store}
 use Rattle.policies.proofs.policy.Statement.{statement}
 use Rattle.policies.proofs.policy.Tie as tie
@@ -13,18 +13,18 @@ returns c =
     let c4 = c .before .before .before .before in
     let c7 = c4 .before .before .before in
     let t = c7 .is-store .ensures in
-    (policy-not-store _ _ (sym (t .says) ∙ not-true _ (c4 .if1 .taken)), c .before .before .clear .ensures ∙ ap (λ n. replicate n 0) (t .wide))
+    (policy-not-store _ _ (sym (t .says) ∙ not-true _ (c4 .if1 .taken)), c .before .before .clear .ensures ∙ ap (λ n. replicate n 0) (t .work-length))
 
-judged-requires : tie.Need-judged-requires
-judged-requires c κs =
+run-checked-requires : tie.Need-run-checked-requires
+run-checked-requires c κs =
     let c5 = c .before .before .before .before .before in
-    judged-ready (c5 .is-store .ensures) (not-false _ (c .before .before .if1 .left))
+    checked-ready (c5 .is-store .ensures) (not-false _ (c .before .before .if1 .left))
 
 returns-2 : tie.Need-returns-2
 returns-2 c =
     let c8 = c .before .before .before .before .before .before .before .before in
     let c14 = c8 .before .before .before .before .before .before in
-    (c8 .judged .ensures, c .before .before .clear2 .ensures ∙ ap (λ n. replicate n 0) (c8 .judged .kept .1 .1 .0 ∙ c14 .is-store .ensures .wide))
+    (c8 .run-checked .ensures, c .before .before .clear2 .ensures ∙ ap (λ n. replicate n 0) (c8 .run-checked .kept .1 .1 .0 ∙ c14 .is-store .ensures .work-length))
 
 pub policy-spec : {M : Type 1} → statement M
 policy-spec =
@@ -35,7 +35,7 @@ policy-spec =
     (λ c. search needs)
     (λ c. search needs)
     returns
-    judged-requires
+    run-checked-requires
     (λ c κs. search needs)
     (λ c. search needs)
     (λ c. search needs)

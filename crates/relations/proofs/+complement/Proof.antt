@@ -5,8 +5,8 @@ use borrow.Fn.PlainCycle.{Measures, is, falls, and}
 use borrow.Author.Needs.{needs}
 use borrow.Fn.Kinds.{In}
 use borrow.Author.Tests.{lt-ltb, le-ltb, not-true, not-false}
-use Rattle.nodes.specs.Operations.{complement-op, complement as complement-program}
-use Rattle.nodes.proofs.Recursion.{node1-zero}
+use Rattle.model.specs.Operations.{complement-op, complement as complement-program}
+use Rattle.model.proofs.Recursion.{node1-zero}
 use Rattle.memory.proofs.Remembering.{recalled}
 use Rattle.memory.proofs.Steps.{begin, by, yes, no, less-says, performs-stuck, given, impossible}
 use Rattle.relations.proofs.Children.{opened1, four-returns}
@@ -16,7 +16,7 @@ use Rattle.relations.proofs.complement.Kinds as complement-kinds
 use Rattle.relations.proofs.+complement.Lts-complement as complement-lts
 use Rattle.memory.proofs.memo.recall.Reads as recall-reads
 use Rattle.memory.proofs.memo.remember.Reads as remember-reads
-use Rattle.memory.proofs.place.give.Reads as give-reads
+use Rattle.memory.proofs.insert.with_handle.Reads as with-handle-reads
 use Rattle.relations.proofs.get.Reads as get-reads
 use Rattle.relations.proofs.mk.Reads as mk-reads
 use Rattle.relations.proofs.+complement.{statement}
@@ -33,8 +33,8 @@ complement-below t = and 2 complement-kinds.ps (falls 2 complement-kinds.ps _<_ 
 
 abbrev calls : ℕ → complement-lts.Claims
 calls t = (
-  give-reads.Asked,
-  give-reads.Learnt,
+  with-handle-reads.Asked,
+  with-handle-reads.Learnt,
   recall-reads.Asked,
   recall-reads.Learnt,
   get-reads.Asked,
@@ -56,7 +56,7 @@ unfolding complement-program
     (λ c κs. search needs)
     (λ c.
     given (not-false _ (c .before .before .if1 .left)) (yes (by begin (complement-is _ _)) (less-says (lt-ltb _ 2 (c .before .if2 .taken))))
-    (c .give .ensures))
+    (c .with-handle .ensures))
     (λ c κs. search needs)
     (λ c. search needs)
     (λ c κs. search needs)
@@ -65,8 +65,8 @@ unfolding complement-program
     let c4 = c .before .before .before .before in
     let c6 = c4 .before .before in
     let c7 = c6 .before in
-    given (not-false _ (c7 .if1 .left)) (recalled 8 _ _ _ (complement-memo _ _ _) (no (by begin (complement-is _ _)) (less-says (le-ltb _ 2 (c6 .if2 .left))))
-    (c4 .recall .ensures) (c .before .before .found .given .1)) (c .give2 .ensures))
+    given (not-false _ (c7 .if1 .left)) (recalled _ _ _ _ (complement-memo _ _ _) (no (by begin (complement-is _ _)) (less-says (le-ltb _ 2 (c6 .if2 .left))))
+    (c4 .recall .ensures) (c .before .before .found .given .1)) (c .with-handle2 .ensures))
     (λ c. search needs)
     (λ c. search needs)
     (λ c.

@@ -5,8 +5,8 @@ use borrow.Author.Needs.{needs}
 use borrow.Author.Tests.{not-true, not-false}
 use borrow.Fn.Kinds.{In}
 use borrow.Fn.PlainCycle.{Measures, is, falls, and}
-use Rattle.nodes.specs.Store.{rel}
-use Rattle.nodes.proofs.Constants.{constant-zero, constant-step}
+use Rattle.model.specs.Store.{rel}
+use Rattle.model.proofs.Constants.{constant-zero, constant-step}
 use Rattle.memory.proofs.Remembering.{recalled, called-kept}
 use Rattle.memory.proofs.Steps.{begin, performs-by, performs-then, performs-ret, performs-stuck, given}
 use Rattle.relations.proofs.Opened.{constant-memo}
@@ -15,7 +15,7 @@ use Rattle.relations.proofs.constant.Kinds as constant-kinds
 use Rattle.relations.proofs.+constant.Lts-constant as constant-lts
 use Rattle.memory.proofs.memo.recall.Reads as recall-reads
 use Rattle.memory.proofs.memo.remember.Reads as remember-reads
-use Rattle.memory.proofs.place.give.Reads as give-reads
+use Rattle.memory.proofs.insert.with_handle.Reads as with-handle-reads
 use Rattle.relations.proofs.mk.Reads as mk-reads
 use Rattle.relations.proofs.+constant.{statement}
 use Rattle.relations.proofs.+constant.Tie.{close}
@@ -31,8 +31,8 @@ constant-below t = and 2 constant-kinds.ps (falls 2 constant-kinds.ps _<_ μ-con
 
 abbrev calls : ℕ → constant-lts.Claims
 calls t = (
-  give-reads.Asked,
-  give-reads.Learnt,
+  with-handle-reads.Asked,
+  with-handle-reads.Learnt,
   recall-reads.Asked,
   recall-reads.Learnt,
   constant-below t,
@@ -48,7 +48,7 @@ pub +constant-spec : {M : Type 1} → statement M
     (λ t. constant-lts.spec (calls t) (constant-at t) constant.Post
     (λ c. performs-stuck (not-true _ (c .if1 .taken)))
     (λ c κs. search needs)
-    (λ c. performs-by (constant-zero rel _ _ (c .before .if2 .taken)) (performs-ret _ (c .give .ensures)))
+    (λ c. performs-by (constant-zero rel _ _ (c .before .if2 .taken)) (performs-ret _ (c .with-handle .ensures)))
     (λ c κs. search needs)
     (λ c. search needs)
     (λ c κs. search needs)
@@ -56,8 +56,8 @@ pub +constant-spec : {M : Type 1} → statement M
     (λ c.
     let c4 = c .before .before .before .before in
     let c7 = c4 .before .before .before in
-    given (not-false _ (c7 .if1 .left)) (recalled 21 _ _ _ (constant-memo _ _ _) begin (c4 .recall .ensures) (c .before .before .found .given .1))
-    (c .give2 .ensures))
+    given (not-false _ (c7 .if1 .left)) (recalled _ _ _ _ (constant-memo _ _ _) begin (c4 .recall .ensures) (c .before .before .found .given .1))
+    (c .with-handle2 .ensures))
     (λ c. search needs)
     (λ c. search needs)
     (λ c κs.

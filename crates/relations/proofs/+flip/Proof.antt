@@ -5,8 +5,8 @@ use borrow.Fn.Kinds.{In}
 use borrow.Fn.PlainCycle.{Measures, is, falls, and}
 use borrow.Author.Tests.{lt-ltb, le-ltb, not-true, not-false}
 use borrow.Author.Needs.{needs}
-use Rattle.nodes.specs.Relations.{flip-op, flip as flip-program}
-use Rattle.nodes.proofs.Recursion.{node1-zero}
+use Rattle.model.specs.Relations.{flip-op, flip as flip-program}
+use Rattle.model.proofs.Recursion.{node1-zero}
 use Rattle.memory.proofs.Remembering.{recalled}
 use Rattle.memory.proofs.Steps.{begin, by, yes, no, less-says, performs-stuck, given, impossible}
 use Rattle.relations.proofs.Children.{opened1, four-returns}
@@ -16,7 +16,7 @@ use Rattle.relations.proofs.flip.Kinds as flip-kinds
 use Rattle.relations.proofs.+flip.Lts-flip as flip-lts
 use Rattle.memory.proofs.memo.recall.Reads as recall-reads
 use Rattle.memory.proofs.memo.remember.Reads as remember-reads
-use Rattle.memory.proofs.place.give.Reads as give-reads
+use Rattle.memory.proofs.insert.with_handle.Reads as with-handle-reads
 use Rattle.relations.proofs.get.Reads as get-reads
 use Rattle.relations.proofs.mk.Reads as mk-reads
 use Rattle.relations.proofs.+flip.{statement}
@@ -33,8 +33,8 @@ flip-below t = and 2 flip-kinds.ps (falls 2 flip-kinds.ps _<_ μ-flip t) flip.Pr
 
 abbrev calls : ℕ → flip-lts.Claims
 calls t = (
-  give-reads.Asked,
-  give-reads.Learnt,
+  with-handle-reads.Asked,
+  with-handle-reads.Learnt,
   recall-reads.Asked,
   recall-reads.Learnt,
   get-reads.Asked,
@@ -54,7 +54,7 @@ unfolding flip-program
     (λ c. performs-stuck (not-true _ (c .if1 .taken)))
     (λ c κs. search needs)
     (λ c.
-    given (not-false _ (c .before .before .if1 .left)) (yes (by begin (flip-is _ _)) (less-says (lt-ltb _ 2 (c .before .if2 .taken)))) (c .give .ensures))
+    given (not-false _ (c .before .before .if1 .left)) (yes (by begin (flip-is _ _)) (less-says (lt-ltb _ 2 (c .before .if2 .taken)))) (c .with-handle .ensures))
     (λ c κs. search needs)
     (λ c. search needs)
     (λ c κs. search needs)
@@ -63,8 +63,8 @@ unfolding flip-program
     let c4 = c .before .before .before .before in
     let c6 = c4 .before .before in
     let c7 = c6 .before in
-    given (not-false _ (c7 .if1 .left)) (recalled 11 _ _ _ (flip-memo _ _ _) (no (by begin (flip-is _ _)) (less-says (le-ltb _ 2 (c6 .if2 .left))))
-    (c4 .recall .ensures) (c .before .before .found .given .1)) (c .give2 .ensures))
+    given (not-false _ (c7 .if1 .left)) (recalled _ _ _ _ (flip-memo _ _ _) (no (by begin (flip-is _ _)) (less-says (le-ltb _ 2 (c6 .if2 .left))))
+    (c4 .recall .ensures) (c .before .before .found .given .1)) (c .with-handle2 .ensures))
     (λ c. search needs)
     (λ c. search needs)
     (λ c.

@@ -5,18 +5,18 @@ use borrow.Fn.PlainCycle.{Measures, is, falls, and}
 use borrow.Author.Needs.{needs}
 use borrow.Fn.Kinds.{In}
 use borrow.Author.Tests.{not-true, not-false}
-use Rattle.nodes.specs.Recursion.{node2}
-use Rattle.nodes.specs.Operations.{intersect-op, intersect as intersect-program}
-use Rattle.nodes.proofs.Recursion.{node2-zero}
-use Rattle.memory.proofs.Steps.{by, yes, no, further, empty-says, performs-stuck, given, impossible, answer-stands, node-stands}
+use Rattle.model.specs.Recursion.{node2}
+use Rattle.model.specs.Operations.{intersect-op, intersect as intersect-program}
+use Rattle.model.proofs.Recursion.{node2-zero}
+use Rattle.memory.proofs.Steps.{by, yes, no, further, empty-says, performs-stuck, given, impossible, answer-reduces, node-reduces}
 use Rattle.relations.proofs.Children.{opened2, four-returns}
 use Rattle.relations.proofs.Opened.{equal, differ, intersect-is, intersect-memo}
 use Rattle.relations.proofs.intersect.Reads as intersect
 use Rattle.relations.proofs.intersect.Kinds as intersect-kinds
 use Rattle.relations.proofs.+intersect.Lts-intersect as intersect-lts
 use Rattle.memory.proofs.memo.remember.Reads as remember-reads
-use Rattle.memory.proofs.place.give.Reads as give-reads
-use Rattle.memory.proofs.words.relation_properties.Reads as relation-properties-reads
+use Rattle.memory.proofs.insert.with_handle.Reads as with-handle-reads
+use Rattle.memory.proofs.property_words.relation_properties.Reads as relation-properties-reads
 use Rattle.relations.proofs.get.Reads as get-reads
 use Rattle.relations.proofs.shortcuts.lattice_tests.Reads as lattice-tests-reads
 use Rattle.relations.proofs.mk.Reads as mk-reads
@@ -34,8 +34,8 @@ intersect-below t = and 2 intersect-kinds.ps (falls 2 intersect-kinds.ps _<_ μ-
 
 abbrev calls : ℕ → intersect-lts.Claims
 calls t = (
-  give-reads.Asked,
-  give-reads.Learnt,
+  with-handle-reads.Asked,
+  with-handle-reads.Learnt,
   relation-properties-reads.Asked,
   relation-properties-reads.Learnt,
   lattice-tests-reads.Asked,
@@ -56,7 +56,7 @@ unfolding intersect-program
     (λ t. intersect-lts.spec (calls t) (intersect-at t) intersect.Post
     (λ c. performs-stuck (not-true _ (c .if1 .taken)))
     (λ c κs. search needs)
-    (λ c. given (not-false _ (c .before .before .if1 .left)) (equal (intersect-is _ _ _) (c .before .if2 .taken)) (c .give .ensures))
+    (λ c. given (not-false _ (c .before .before .if1 .left)) (equal (intersect-is _ _ _) (c .before .if2 .taken)) (c .with-handle .ensures))
     (λ c κs. search needs)
     (λ c κs. search needs)
     (λ c. search needs)
@@ -65,7 +65,7 @@ unfolding intersect-program
     let c5 = c .before .before .before .before .before in
     let c6 = c5 .before in
     given (not-false _ (c6 .if1 .left)) (yes (differ (intersect-is _ _ _) (c5 .if2 .left))
-    (empty-says (c .before .before .relation-properties .ensures) (c .before .if3 .taken))) (c .give2 .ensures))
+    (empty-says (c .before .before .relation-properties .ensures) (c .before .if3 .taken))) (c .with-handle2 .ensures))
     (λ c κs. search needs)
     (λ c κs. search needs)
     (λ c. search needs)
@@ -82,7 +82,7 @@ unfolding intersect-program
     let c14 = c13 .before in
     impossible (not-false _ (c14 .if1 .left))
     (by (further (no (differ (intersect-is _ _ _) (c13 .if2 .left)) (empty-says (c10 .relation-properties .ensures) (c9 .if3 .left)))
-    (node-stands (c4 .lattice-tests .ensures (node2 intersect-op _) _ (intersect-memo _) (c10 .relation-properties .ensures)
+    (node-reduces (c4 .lattice-tests .ensures (node2 intersect-op _) _ (intersect-memo _) (c10 .relation-properties .ensures)
     (c6 .relation-properties2 .ensures)) (c .before .before .found2 .given .1))) (node2-zero intersect-op _ _ _ (c .if4 .taken))))
     (λ c κs. search needs)
     (λ c κs. search needs)
@@ -122,8 +122,8 @@ unfolding intersect-program
     let c14 = c13 .before in
     given (not-false _ (c14 .if1 .left)) (further
     (no (differ (intersect-is _ _ _) (c13 .if2 .left)) (empty-says (c10 .relation-properties .ensures) (c9 .if3 .left)))
-    (answer-stands (c4 .lattice-tests .ensures (node2 intersect-op _) _ (intersect-memo _) (c10 .relation-properties .ensures)
-    (c6 .relation-properties2 .ensures)) (c .before .before .found .given .1))) (c .give3 .ensures))
+    (answer-reduces (c4 .lattice-tests .ensures (node2 intersect-op _) _ (intersect-memo _) (c10 .relation-properties .ensures)
+    (c6 .relation-properties2 .ensures)) (c .before .before .found .given .1))) (c .with-handle3 .ensures))
     (λ c.
     let c7 = c .before .before .before .before .before .before .before in
     let c14 = c7 .before .before .before .before .before .before .before in
@@ -157,7 +157,7 @@ unfolding intersect-program
     let c61 = c57 .before .before .before .before in
     four-returns 5 _ _ _ (not-false _ (c57 .if1 .left)) (omega (arith, c61 .fits .level .fits)) (intersect-memo _ _ _)
     (further (no (differ (intersect-is _ _ _) (c56 .if2 .left)) (empty-says (c53 .relation-properties .ensures) (c52 .if3 .left)))
-    (node-stands (c47 .lattice-tests .ensures (node2 intersect-op _) _ (intersect-memo _) (c53 .relation-properties .ensures)
+    (node-reduces (c47 .lattice-tests .ensures (node2 intersect-op _) _ (intersect-memo _) (c53 .relation-properties .ensures)
     (c49 .relation-properties2 .ensures)) (c45 .found2 .given .1))) (opened2 _ _ _ _ _ (c43 .if4 .left) (c41 .get .ensures) (c39 .get2 .ensures))
     (c36 .intersect .ensures) (c29 .intersect2 .ensures) (c22 .intersect3 .ensures) (c15 .intersect4 .ensures) (c8 .mk .ensures)
     (c .before .before .remember .ensures)))

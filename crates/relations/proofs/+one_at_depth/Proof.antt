@@ -13,7 +13,7 @@ use Rattle.relations.proofs.one_at_depth.Kinds as one-at-depth-kinds
 use Rattle.relations.proofs.+one_at_depth.Lts-one_at_depth as one-at-depth-lts
 use Rattle.memory.proofs.memo.recall.Reads as recall-reads
 use Rattle.memory.proofs.memo.remember.Reads as remember-reads
-use Rattle.memory.proofs.place.give.Reads as give-reads
+use Rattle.memory.proofs.insert.with_handle.Reads as with-handle-reads
 use Rattle.relations.proofs.mk.Reads as mk-reads
 use Rattle.relations.proofs.zero_at_depth.Reads as zero-at-depth-reads
 use Rattle.relations.proofs.+one_at_depth.{statement}
@@ -30,8 +30,8 @@ one-at-depth-below t = and 2 one-at-depth-kinds.ps (falls 2 one-at-depth-kinds.p
 
 abbrev calls : ℕ → one-at-depth-lts.Claims
 calls t = (
-  give-reads.Asked,
-  give-reads.Learnt,
+  with-handle-reads.Asked,
+  with-handle-reads.Learnt,
   recall-reads.Asked,
   recall-reads.Learnt,
   one-at-depth-below t,
@@ -49,7 +49,7 @@ pub +one-at-depth-spec : {M : Type 1} → statement M
     (λ t. one-at-depth-lts.spec (calls t) (one-at-depth-at t) one-at-depth.Post
     (λ c. performs-stuck (not-true _ (c .if1 .taken)))
     (λ c κs. search needs)
-    (λ c. performs-by (identity-zero _ (c .before .if2 .taken)) (performs-ret _ (c .give .ensures)))
+    (λ c. performs-by (identity-zero _ (c .before .if2 .taken)) (performs-ret _ (c .with-handle .ensures)))
     (λ c κs. search needs)
     (λ c. search needs)
     (λ c κs. search needs)
@@ -57,8 +57,8 @@ pub +one-at-depth-spec : {M : Type 1} → statement M
     (λ c.
     let c4 = c .before .before .before .before in
     let c7 = c4 .before .before .before in
-    given (not-false _ (c7 .if1 .left)) (recalled 22 _ 0 0 (identity-memo _ _ _) begin (c4 .recall .ensures) (c .before .before .found .given .1))
-    (c .give2 .ensures))
+    given (not-false _ (c7 .if1 .left)) (recalled _ _ 0 0 (identity-memo _ _ _) begin (c4 .recall .ensures) (c .before .before .found .given .1))
+    (c .with-handle2 .ensures))
     (λ c. search needs)
     (λ c. search needs)
     (λ c κs.

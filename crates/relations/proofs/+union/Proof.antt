@@ -5,11 +5,11 @@ use borrow.Fn.PlainCycle.{Measures, is, falls, and}
 use borrow.Author.Needs.{needs}
 use borrow.Fn.Kinds.{In}
 use borrow.Author.Tests.{not-true, not-false}
-use Rattle.nodes.specs.Store.{rel}
-use Rattle.nodes.specs.Recursion.{node2}
-use Rattle.nodes.specs.Operations.{union-op, union as union-program}
-use Rattle.nodes.proofs.Recursion.{node2-zero}
-use Rattle.memory.proofs.Steps.{by, yes, no, further, empty-says, performs-stuck, given, impossible, answer-stands, node-stands}
+use Rattle.model.specs.Store.{rel}
+use Rattle.model.specs.Recursion.{node2}
+use Rattle.model.specs.Operations.{union-op, union as union-program}
+use Rattle.model.proofs.Recursion.{node2-zero}
+use Rattle.memory.proofs.Steps.{by, yes, no, further, empty-says, performs-stuck, given, impossible, answer-reduces, node-reduces}
 use Rattle.relations.proofs.Children.{opened2, four-returns}
 use Rattle.relations.proofs.Copied.{copied}
 use Rattle.relations.proofs.Opened.{equal, differ, union-is, union-memo}
@@ -17,8 +17,8 @@ use Rattle.relations.proofs.union.Reads as union
 use Rattle.relations.proofs.union.Kinds as union-kinds
 use Rattle.relations.proofs.+union.Lts-union as union-lts
 use Rattle.memory.proofs.memo.remember.Reads as remember-reads
-use Rattle.memory.proofs.place.give.Reads as give-reads
-use Rattle.memory.proofs.words.relation_properties.Reads as relation-properties-reads
+use Rattle.memory.proofs.insert.with_handle.Reads as with-handle-reads
+use Rattle.memory.proofs.property_words.relation_properties.Reads as relation-properties-reads
 use Rattle.relations.proofs.get.Reads as get-reads
 use Rattle.relations.proofs.shortcuts.lattice_tests.Reads as lattice-tests-reads
 use Rattle.relations.proofs.mk.Reads as mk-reads
@@ -36,8 +36,8 @@ union-below t = and 2 union-kinds.ps (falls 2 union-kinds.ps _<_ μ-union t) uni
 
 abbrev calls : ℕ → union-lts.Claims
 calls t = (
-  give-reads.Asked,
-  give-reads.Learnt,
+  with-handle-reads.Asked,
+  with-handle-reads.Learnt,
   relation-properties-reads.Asked,
   relation-properties-reads.Learnt,
   lattice-tests-reads.Asked,
@@ -57,12 +57,12 @@ unfolding union-program
 +union-spec = close μ-union
     (λ t. union-lts.spec (calls t) (union-at t) union.Post
     (λ c κs. search needs)
-    (λ c. copied (c .before .before .give .ensures) (performs-stuck (not-true _ (c .if1 .taken))))
+    (λ c. copied (c .before .before .with-handle .ensures) (performs-stuck (not-true _ (c .if1 .taken))))
     (λ c κs. search needs)
     (λ c.
     let c4 = c .before .before .before .before in
-    copied (c4 .give .ensures) (given (not-false _ (c .before .before .if1 .left)) (equal (union-is _ _ _) (c .before .if2 .taken))
-    (c .give2 .ensures)))
+    copied (c4 .with-handle .ensures) (given (not-false _ (c .before .before .if1 .left)) (equal (union-is _ _ _) (c .before .if2 .taken))
+    (c .with-handle2 .ensures)))
     (λ c κs. search needs)
     (λ c κs. search needs)
     (λ c. search needs)
@@ -71,9 +71,9 @@ unfolding union-program
     let c5 = c .before .before .before .before .before in
     let c6 = c5 .before in
     let c8 = c6 .before .before in
-    copied (c8 .give .ensures) (given (not-false _ (c6 .if1 .left))
+    copied (c8 .with-handle .ensures) (given (not-false _ (c6 .if1 .left))
     (yes (differ (union-is _ _ _) (c5 .if2 .left)) (empty-says (c .before .before .relation-properties .ensures) (c .before .if3 .taken)))
-    (c .give3 .ensures)))
+    (c .with-handle3 .ensures)))
     (λ c κs. search needs)
     (λ c κs. search needs)
     (λ c. search needs)
@@ -89,9 +89,9 @@ unfolding union-program
     let c13 = c10 .before .before .before in
     let c14 = c13 .before in
     let c16 = c14 .before .before in
-    copied (c16 .give .ensures) (impossible (not-false _ (c14 .if1 .left))
+    copied (c16 .with-handle .ensures) (impossible (not-false _ (c14 .if1 .left))
     (by (further (no (differ (union-is _ _ _) (c13 .if2 .left)) (empty-says (c10 .relation-properties .ensures) (c9 .if3 .left)))
-    (node-stands (c4 .lattice-tests .ensures (node2 (union-op rel) _) _ (union-memo _) (c10 .relation-properties .ensures)
+    (node-reduces (c4 .lattice-tests .ensures (node2 (union-op rel) _) _ (union-memo _) (c10 .relation-properties .ensures)
     (c6 .relation-properties2 .ensures)) (c .before .before .found2 .given .1))) (node2-zero (union-op rel) _ _ _ (c .if4 .taken)))))
     (λ c κs. search needs)
     (λ c κs. search needs)
@@ -130,10 +130,10 @@ unfolding union-program
     let c13 = c10 .before .before .before in
     let c14 = c13 .before in
     let c16 = c14 .before .before in
-    copied (c16 .give .ensures) (given (not-false _ (c14 .if1 .left))
+    copied (c16 .with-handle .ensures) (given (not-false _ (c14 .if1 .left))
     (further (no (differ (union-is _ _ _) (c13 .if2 .left)) (empty-says (c10 .relation-properties .ensures) (c9 .if3 .left)))
-    (answer-stands (c4 .lattice-tests .ensures (node2 (union-op rel) _) _ (union-memo _) (c10 .relation-properties .ensures)
-    (c6 .relation-properties2 .ensures)) (c .before .before .found .given .1))) (c .give4 .ensures)))
+    (answer-reduces (c4 .lattice-tests .ensures (node2 (union-op rel) _) _ (union-memo _) (c10 .relation-properties .ensures)
+    (c6 .relation-properties2 .ensures)) (c .before .before .found .given .1))) (c .with-handle4 .ensures)))
     (λ c.
     let c7 = c .before .before .before .before .before .before .before in
     let c14 = c7 .before .before .before .before .before .before .before in
@@ -166,9 +166,9 @@ unfolding union-program
     let c57 = c56 .before in
     let c59 = c57 .before .before in
     let c62 = c59 .before .before .before in
-    copied (c59 .give .ensures) (four-returns 4 _ _ _ (not-false _ (c57 .if1 .left)) (omega (arith, c62 .fits .level .fits)) (union-memo _ _ _)
+    copied (c59 .with-handle .ensures) (four-returns 4 _ _ _ (not-false _ (c57 .if1 .left)) (omega (arith, c62 .fits .level .fits)) (union-memo _ _ _)
     (further (no (differ (union-is _ _ _) (c56 .if2 .left)) (empty-says (c53 .relation-properties .ensures) (c52 .if3 .left)))
-    (node-stands (c47 .lattice-tests .ensures (node2 (union-op rel) _) _ (union-memo _) (c53 .relation-properties .ensures)
+    (node-reduces (c47 .lattice-tests .ensures (node2 (union-op rel) _) _ (union-memo _) (c53 .relation-properties .ensures)
     (c49 .relation-properties2 .ensures)) (c45 .found2 .given .1))) (opened2 _ _ _ _ _ (c43 .if4 .left) (c41 .get .ensures) (c39 .get2 .ensures))
     (c36 .union .ensures) (c29 .union2 .ensures) (c22 .union3 .ensures) (c15 .union4 .ensures) (c8 .mk .ensures)
     (c .before .before .remember .ensures))))

@@ -1,6 +1,6 @@
 -- `get` reads the four children.
 use borrow.Author.Needs.{needs}
-use Rattle.memory.proofs.Looking.{looks-four}
+use Rattle.memory.proofs.Looking.{reads-four}
 use Rattle.relations.proofs.get.Statement.{statement}
 use Rattle.relations.proofs.get.Tie as tie
 
@@ -14,4 +14,4 @@ get-spec =
     (λ c κs. search needs)
     (λ c.
     let c3 = c .before .before .before in
-    looks-four (c3 .child-of .ensures) (c .before .before .child-of2 .ensures) (c .before .child-of3 .ensures) (c .child-of4 .ensures)))
+    reads-four (c3 .child-of .ensures) (c .before .before .child-of2 .ensures) (c .before .child-of3 .ensures) (c .child-of4 .ensures)))

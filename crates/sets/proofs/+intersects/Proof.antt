@@ -5,17 +5,17 @@ use borrow.Author.Needs.{needs}
 use borrow.Author.Tests.{eq-eqb, ne-eqb, not-true, not-false}
 use borrow.Fn.Kinds.{In}
 use borrow.Fn.PlainCycle.{Measures, is, falls, and}
-use Rattle.nodes.specs.Sets.{intersects-op}
-use Rattle.nodes.proofs.Recursion.{node2-zero}
+use Rattle.model.specs.Sets.{intersects-op}
+use Rattle.model.proofs.Recursion.{node2-zero}
 use Rattle.memory.proofs.Steps.{begin, by, further, performs-stuck, given, impossible, performs-ret, performs-same, performs-differ}
-use Rattle.memory.proofs.Steps.{answer-stands, node-stands}
+use Rattle.memory.proofs.Steps.{answer-reduces, node-reduces}
 use Rattle.sets.proofs.Opened.{intersects-is}
 use Rattle.sets.proofs.Meets.{meet-returns}
 use Rattle.sets.proofs.intersects.Reads as intersects
 use Rattle.sets.proofs.intersects.Kinds as intersects-kinds
 use Rattle.sets.proofs.+intersects.Lts-intersects as intersects-lts
 use Rattle.memory.proofs.memo.remember.Reads as remember-reads
-use Rattle.memory.proofs.place.give.Reads as give-reads
+use Rattle.memory.proofs.insert.with_handle.Reads as with-handle-reads
 use Rattle.sets.proofs.get.Reads as get-reads
 use Rattle.sets.proofs.intersects_tests.Reads as intersects-tests-reads
 use Rattle.sets.proofs.+intersects.{statement}
@@ -34,8 +34,8 @@ abbrev calls : ℕ → intersects-lts.Claims
 calls t = (
   intersects-tests-reads.Asked,
   intersects-tests-reads.Learnt,
-  give-reads.Asked,
-  give-reads.Learnt,
+  with-handle-reads.Asked,
+  with-handle-reads.Learnt,
   get-reads.Asked,
   get-reads.Learnt,
   intersects-below t,
@@ -57,7 +57,7 @@ pub +intersects-spec : {M : Type 1} → statement M
     let c4 = c .before .before .before .before in
     let c6 = c4 .before .before in
     impossible (not-false _ (c6 .if1 .left)) (by (further (by begin (intersects-is _ _ _))
-    (node-stands (c4 .intersects-tests .ensures) (c .before .before .found2 .given .1))) (node2-zero intersects-op _ _ _ (c .if2 .taken))))
+    (node-reduces (c4 .intersects-tests .ensures) (c .before .before .found2 .given .1))) (node2-zero intersects-op _ _ _ (c .if2 .taken))))
     (λ c κs. search needs)
     (λ c κs. search needs)
     (λ c. search needs)
@@ -80,8 +80,8 @@ pub +intersects-spec : {M : Type 1} → statement M
     let c19 = c17 .before .before in
     let c23 = c19 .before .before .before .before in
     meet-returns _ _ _ (not-false _ (c19 .if1 .left)) (omega (arith, c23 .fits .level .fits)) (c13 .if2 .left)
-    (further (by begin (intersects-is _ _ _)) (node-stands (c17 .intersects-tests .ensures) (c15 .found2 .given .1))) (c12 .get .ensures)
-    (c11 .get2 .ensures) (c9 .intersects .ensures) (performs-same _ 1 (eq-eqb _ _ (c5 .if3 .taken)) (performs-ret 1 (c4 .give2 .ensures)))
+    (further (by begin (intersects-is _ _ _)) (node-reduces (c17 .intersects-tests .ensures) (c15 .found2 .given .1))) (c12 .get .ensures)
+    (c11 .get2 .ensures) (c9 .intersects .ensures) (performs-same _ 1 (eq-eqb _ _ (c5 .if3 .taken)) (performs-ret 1 (c4 .with-handle2 .ensures)))
     (c .before .before .remember .ensures))
     (λ c. search needs)
     (λ c κs.
@@ -94,7 +94,7 @@ pub +intersects-spec : {M : Type 1} → statement M
     let c4 = c .before .before .before .before in
     let c6 = c4 .before .before in
     given (not-false _ (c6 .if1 .left)) (further (by begin (intersects-is _ _ _))
-    (answer-stands (c4 .intersects-tests .ensures) (c .before .before .found .given .1))) (c .give .ensures))
+    (answer-reduces (c4 .intersects-tests .ensures) (c .before .before .found .given .1))) (c .with-handle .ensures))
     (λ c. search needs)
     (λ c.
     let c6 = c .before .before .before .before .before .before in
@@ -108,6 +108,6 @@ pub +intersects-spec : {M : Type 1} → statement M
     let c22 = c20 .before .before in
     let c26 = c22 .before .before .before .before in
     meet-returns _ _ _ (not-false _ (c22 .if1 .left)) (omega (arith, c26 .fits .level .fits)) (c16 .if2 .left)
-    (further (by begin (intersects-is _ _ _)) (node-stands (c20 .intersects-tests .ensures) (c18 .found2 .given .1))) (c15 .get .ensures)
+    (further (by begin (intersects-is _ _ _)) (node-reduces (c20 .intersects-tests .ensures) (c18 .found2 .given .1))) (c15 .get .ensures)
     (c14 .get2 .ensures) (c12 .intersects .ensures) (performs-differ _ 1 (ne-eqb _ _ (c8 .if3 .left)) (c6 .intersects2 .ensures))
     (c .before .before .remember2 .ensures)))

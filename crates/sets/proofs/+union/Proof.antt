@@ -6,18 +6,18 @@ use borrow.Author.Needs.{needs}
 use borrow.Author.Tests.{eq-eqb, ne-eqb, not-true, not-false}
 use borrow.Fn.Kinds.{In}
 use borrow.Fn.PlainCycle.{Measures, is, falls, and}
-use Rattle.nodes.specs.Store.{set}
-use Rattle.nodes.specs.Operations.{union-op, union-tests, union as union-program}
-use Rattle.nodes.proofs.Recursion.{node2-zero}
-use Rattle.memory.proofs.Steps.{begin, by, yes, no, same-says, performs-stuck, given, called, impossible, further, answer-stands, node-stands}
+use Rattle.model.specs.Store.{set}
+use Rattle.model.specs.Operations.{union-op, union-tests, union as union-program}
+use Rattle.model.proofs.Recursion.{node2-zero}
+use Rattle.memory.proofs.Steps.{begin, by, yes, no, same-says, performs-stuck, given, called, impossible, further, answer-reduces, node-reduces}
 use Rattle.sets.proofs.Opened.{union-is, union-memo, union-tested}
 use Rattle.sets.proofs.Pairs.{pair-returns}
 use Rattle.sets.proofs.union.Reads as union
 use Rattle.sets.proofs.union.Kinds as union-kinds
 use Rattle.sets.proofs.+union.Lts-union as union-lts
 use Rattle.memory.proofs.memo.remember.Reads as remember-reads
-use Rattle.memory.proofs.place.give.Reads as give-reads
-use Rattle.memory.proofs.words.other.Reads as other-reads
+use Rattle.memory.proofs.insert.with_handle.Reads as with-handle-reads
+use Rattle.memory.proofs.property_words.other.Reads as other-reads
 use Rattle.sets.proofs.get.Reads as get-reads
 use Rattle.sets.proofs.mk.Reads as mk-reads
 use Rattle.sets.proofs.one_at_depth.Reads as one-at-depth-reads
@@ -36,8 +36,8 @@ union-below t = and 2 union-kinds.ps (falls 2 union-kinds.ps _<_ μ-union t) uni
 
 abbrev calls : ℕ → union-lts.Claims
 calls t = (
-  give-reads.Asked,
-  give-reads.Learnt,
+  with-handle-reads.Asked,
+  with-handle-reads.Learnt,
   other-reads.Asked,
   other-reads.Learnt,
   one-at-depth-reads.Asked,
@@ -61,7 +61,7 @@ unfolding union-program
     (λ c. performs-stuck (not-true _ (c .if1 .taken)))
     (λ c κs. search needs)
     (λ c. given (not-false _ (c .before .before .if1 .left))
-    (yes (by begin (union-is _ _ _)) (same-says (eq-eqb _ _ (c .before .if2 .taken)))) (c .give .ensures))
+    (yes (by begin (union-is _ _ _)) (same-says (eq-eqb _ _ (c .before .if2 .taken)))) (c .with-handle .ensures))
     (λ c κs. search needs)
     (λ c κs. search needs)
     (λ c. search needs)
@@ -87,7 +87,7 @@ unfolding union-program
     let c9 = c8 .before in
     let c10 = c9 .before in
     impossible (not-false _ (c10 .if1 .left)) (by (further (union-tested _ _ _ _ (c9 .if2 .left) (c8 .other .ensures) (c7 .if3 .left))
-    (node-stands (c4 .union-tests .ensures) (c .before .before .found2 .given .1))) (node2-zero (union-op set) _ _ _ (c .if4 .taken))))
+    (node-reduces (c4 .union-tests .ensures) (c .before .before .found2 .given .1))) (node2-zero (union-op set) _ _ _ (c .if4 .taken))))
     (λ c κs. search needs)
     (λ c κs. search needs)
     (λ c. search needs)
@@ -111,7 +111,7 @@ unfolding union-program
     let c9 = c8 .before in
     let c10 = c9 .before in
     given (not-false _ (c10 .if1 .left)) (further (union-tested _ _ _ _ (c9 .if2 .left) (c8 .other .ensures) (c7 .if3 .left))
-    (answer-stands (c4 .union-tests .ensures) (c .before .before .found .given .1))) (c .give2 .ensures))
+    (answer-reduces (c4 .union-tests .ensures) (c .before .before .found .given .1))) (c .with-handle2 .ensures))
     (λ c. search needs)
     (λ c. search needs)
     (λ c.
@@ -130,5 +130,5 @@ unfolding union-program
     let c43 = c39 .before .before .before .before in
     pair-returns (union-op set .short) 1 _ _ _ (not-false _ (c39 .if1 .left)) (omega (arith, c43 .fits .level .fits)) (c29 .if4 .left) (union-memo _ _ _)
     (further (union-tested _ _ _ _ (c38 .if2 .left) (c37 .other .ensures) (c36 .if3 .left))
-    (node-stands (c33 .union-tests .ensures) (c31 .found2 .given .1))) (c27 .get .ensures) (c25 .get2 .ensures) (c22 .union .ensures) (c15 .union2 .ensures)
+    (node-reduces (c33 .union-tests .ensures) (c31 .found2 .given .1))) (c27 .get .ensures) (c25 .get2 .ensures) (c22 .union .ensures) (c15 .union2 .ensures)
     (c8 .mk .ensures) (c .before .before .remember .ensures)))

@@ -5,17 +5,17 @@ use borrow.Author.Needs.{needs}
 use borrow.Author.Tests.{eq-eqb, not-true, not-false}
 use borrow.Fn.Kinds.{In}
 use borrow.Fn.PlainCycle.{Measures, is, falls, and}
-use Rattle.nodes.specs.Store.{set}
-use Rattle.nodes.specs.Operations.{xor-op, xor as xor-program}
-use Rattle.nodes.proofs.Recursion.{node2-zero}
-use Rattle.memory.proofs.Steps.{begin, by, yes, same-says, performs-stuck, given, called, impossible, further, answer-stands, node-stands}
+use Rattle.model.specs.Store.{set}
+use Rattle.model.specs.Operations.{xor-op, xor as xor-program}
+use Rattle.model.proofs.Recursion.{node2-zero}
+use Rattle.memory.proofs.Steps.{begin, by, yes, same-says, performs-stuck, given, called, impossible, further, answer-reduces, node-reduces}
 use Rattle.sets.proofs.Opened.{xor-is, xor-memo, xor-tested}
 use Rattle.sets.proofs.Pairs.{pair-returns}
 use Rattle.sets.proofs.xor.Reads as xor
 use Rattle.sets.proofs.xor.Kinds as xor-kinds
 use Rattle.sets.proofs.+xor.Lts-xor as xor-lts
 use Rattle.memory.proofs.memo.remember.Reads as remember-reads
-use Rattle.memory.proofs.place.give.Reads as give-reads
+use Rattle.memory.proofs.insert.with_handle.Reads as with-handle-reads
 use Rattle.sets.proofs.get.Reads as get-reads
 use Rattle.sets.proofs.mk.Reads as mk-reads
 use Rattle.sets.proofs.xor_tests.Reads as xor-tests-reads
@@ -38,8 +38,8 @@ calls t = (
   zero-at-depth-reads.Learnt,
   xor-tests-reads.Asked,
   xor-tests-reads.Learnt,
-  give-reads.Asked,
-  give-reads.Learnt,
+  with-handle-reads.Asked,
+  with-handle-reads.Learnt,
   get-reads.Asked,
   get-reads.Learnt,
   xor-below t,
@@ -74,7 +74,7 @@ unfolding xor-program
     let c7 = c4 .before .before .before in
     let c8 = c7 .before in
     impossible (not-false _ (c8 .if1 .left)) (by (further (xor-tested _ _ _ (c7 .if2 .left))
-    (node-stands (c4 .xor-tests .ensures) (c .before .before .found2 .given .1))) (node2-zero (xor-op set) _ _ _ (c .if3 .taken))))
+    (node-reduces (c4 .xor-tests .ensures) (c .before .before .found2 .given .1))) (node2-zero (xor-op set) _ _ _ (c .if3 .taken))))
     (λ c κs. search needs)
     (λ c κs. search needs)
     (λ c. search needs)
@@ -96,7 +96,7 @@ unfolding xor-program
     let c7 = c4 .before .before .before in
     let c8 = c7 .before in
     given (not-false _ (c8 .if1 .left)) (further (xor-tested _ _ _ (c7 .if2 .left))
-    (answer-stands (c4 .xor-tests .ensures) (c .before .before .found .given .1))) (c .give .ensures))
+    (answer-reduces (c4 .xor-tests .ensures) (c .before .before .found .given .1))) (c .with-handle .ensures))
     (λ c. search needs)
     (λ c. search needs)
     (λ c.
@@ -112,5 +112,5 @@ unfolding xor-program
     let c37 = c36 .before in
     let c41 = c37 .before .before .before .before in
     pair-returns (xor-op set .short) 2 _ _ _ (not-false _ (c37 .if1 .left)) (omega (arith, c41 .fits .level .fits)) (c29 .if3 .left) (xor-memo _ _ _)
-    (further (xor-tested _ _ _ (c36 .if2 .left)) (node-stands (c33 .xor-tests .ensures) (c31 .found2 .given .1))) (c27 .get .ensures) (c25 .get2 .ensures)
+    (further (xor-tested _ _ _ (c36 .if2 .left)) (node-reduces (c33 .xor-tests .ensures) (c31 .found2 .given .1))) (c27 .get .ensures) (c25 .get2 .ensures)
     (c22 .xor .ensures) (c15 .xor2 .ensures) (c8 .mk .ensures) (c .before .before .remember .ensures)))

@@ -11,4 +11,4 @@ complement-spec =
     (tie.spec
     (λ c κs. search needs)
     (λ c κs. search needs)
-    (λ c l m w. performs-by (complement-is l _ (c .before .other .ensures)) (performs-ret _ (c .give .ensures))))
+    (λ c l m w. performs-by (complement-is l _ (c .before .other .ensures)) (performs-ret _ (c .with-handle .ensures))))

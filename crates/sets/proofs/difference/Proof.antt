@@ -1,7 +1,7 @@
 -- `difference` is the complement of the union of the complement of a with b.
 use mathlib.Core.Path.{sym, ap}
 use borrow.Author.Needs.{needs}
-use Rattle.nodes.specs.Programs.{ret}
+use Rattle.model.specs.Programs.{ret}
 use Rattle.memory.proofs.Steps.{performs-by, performs-then, performs-ret}
 use Rattle.sets.proofs.Opened.{difference-is}
 use Rattle.sets.proofs.difference.Statement.{statement}
@@ -21,4 +21,4 @@ difference-spec =
     let c6 = c .before .before .before .before .before .before in
     let c7 = c6 .before in
     performs-by (difference-is _ _ _ (c7 .other .ensures))
-    (performs-then (c6 .union .ensures) (performs-by (ap ret (sym (c .before .other2 .ensures))) (performs-ret _ (c .give .ensures))))))
+    (performs-then (c6 .union .ensures) (performs-by (ap ret (sym (c .before .other2 .ensures))) (performs-ret _ (c .with-handle .ensures))))))

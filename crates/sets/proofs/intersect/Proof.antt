@@ -1,7 +1,7 @@
 -- `intersect` is the complement of the union of the complements.
 use mathlib.Core.Path.{sym, ap}
 use borrow.Author.Needs.{needs}
-use Rattle.nodes.specs.Programs.{ret}
+use Rattle.model.specs.Programs.{ret}
 use Rattle.memory.proofs.Steps.{performs-by, performs-then, performs-ret}
 use Rattle.sets.proofs.Opened.{intersect-is}
 use Rattle.sets.proofs.intersect.Statement.{statement}
@@ -23,4 +23,4 @@ intersect-spec =
     let c7 = c6 .before in
     let c8 = c7 .before in
     performs-by (intersect-is _ _ _ (c8 .other .ensures) (c7 .other2 .ensures))
-    (performs-then (c6 .union .ensures) (performs-by (ap ret (sym (c .before .other3 .ensures))) (performs-ret _ (c .give .ensures))))))
+    (performs-then (c6 .union .ensures) (performs-by (ap ret (sym (c .before .other3 .ensures))) (performs-ret _ (c .with-handle .ensures))))))

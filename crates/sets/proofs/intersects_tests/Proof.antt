@@ -65,7 +65,7 @@ intersects-tests-spec =
     let c8 = c7 .before in
     let c9 = c8 .before in
     let c10 = c9 .before in
-    answer-recalled 3 _ _ _ (intersects-memo _ _ _)
+    answer-recalled _ _ _ _ (intersects-memo _ _ _)
     (yes (no (no (no (no (no (no begin (same-says (ne-eqb _ _ (λ e. c9 .if1 .left (e ∙ sym (c10 .other .ensures))))))
     (empty-says (c8 .set-properties .ensures) (c7 .if2 .left))) (empty-says (c6 .set-properties2 .ensures) (c5 .if3 .left)))
     (same-says (ne-eqb _ _ (c4 .if4 .left)))) (universal-says (c8 .set-properties .ensures) (c3 .if5 .left)))
@@ -81,7 +81,7 @@ intersects-tests-spec =
     let c8 = c7 .before in
     let c9 = c8 .before in
     let c10 = c9 .before in
-    answer-recalled 3 _ _ _ (intersects-memo _ _ _)
+    answer-recalled _ _ _ _ (intersects-memo _ _ _)
     (no (no (no (no (no (no (no begin (same-says (ne-eqb _ _ (λ e. c9 .if1 .left (e ∙ sym (c10 .other .ensures))))))
     (empty-says (c8 .set-properties .ensures) (c7 .if2 .left))) (empty-says (c6 .set-properties2 .ensures) (c5 .if3 .left)))
     (same-says (ne-eqb _ _ (c4 .if4 .left)))) (universal-says (c8 .set-properties .ensures) (c3 .if5 .left)))

@@ -1,4 +1,4 @@
--- `is_universal` tells one of the properties.
+-- `is_universal` is one of the properties.
 use borrow.Author.Needs.{needs}
 use Rattle.sets.proofs.is_universal.Statement.{statement}
 use Rattle.sets.proofs.is_universal.Tie as tie

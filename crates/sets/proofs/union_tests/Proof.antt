@@ -4,7 +4,7 @@ use borrow.Author.Tests.{lt-ltb, le-ltb}
 use Rattle.memory.proofs.Steps.{begin, yes, no, empty-says, universal-says, less-says, answer}
 use Rattle.memory.proofs.Remembering.{answer-recalled}
 use Rattle.sets.proofs.Opened.{union-memo}
-use Rattle.memory.proofs.words.set_properties.Reads as set-properties-reads
+use Rattle.memory.proofs.property_words.set_properties.Reads as set-properties-reads
 use Rattle.memory.proofs.memo.recall.Reads as recall-reads
 use Rattle.sets.proofs.union_tests.Statement.{statement}
 use Rattle.sets.proofs.union_tests.Tie as tie
@@ -45,7 +45,7 @@ union-tests-spec =
     let c5 = c4 .before in
     let c6 = c5 .before in
     let c7 = c6 .before in
-    answer-recalled 1 _ _ _ (union-memo _ _ _) (yes
+    answer-recalled _ _ _ _ (union-memo _ _ _) (yes
     (no (no (no (no begin (empty-says (c7 .set-properties .ensures) (c6 .if1 .left)))
     (universal-says (c5 .set-properties2 .ensures) (c4 .if2 .left))) (empty-says (c5 .set-properties2 .ensures) (c3 .if3 .left)))
     (universal-says (c7 .set-properties .ensures) (c .before .before .if4 .left))) (less-says (lt-ltb _ _ (c .before .if5 .taken))))
@@ -57,7 +57,7 @@ union-tests-spec =
     let c5 = c4 .before in
     let c6 = c5 .before in
     let c7 = c6 .before in
-    answer-recalled 1 _ _ _ (union-memo _ _ _) (no (no
+    answer-recalled _ _ _ _ (union-memo _ _ _) (no (no
     (no (no (no begin (empty-says (c7 .set-properties .ensures) (c6 .if1 .left))) (universal-says (c5 .set-properties2 .ensures) (c4 .if2 .left)))
     (empty-says (c5 .set-properties2 .ensures) (c3 .if3 .left))) (universal-says (c7 .set-properties .ensures) (c .before .before .if4 .left)))
     (less-says (le-ltb _ _ (c .before .if5 .left)))) (c .recall2 .ensures)))

@@ -42,7 +42,7 @@ xor-tests-spec =
     let c5 = c4 .before in
     let c6 = c5 .before in
     let c7 = c6 .before in
-    answer-recalled 2 _ _ _ (xor-memo _ _ _) (yes (no
+    answer-recalled _ _ _ _ (xor-memo _ _ _) (yes (no
     (no (no (no begin (empty-says (c7 .set-properties .ensures) (c6 .if1 .left))) (empty-says (c5 .set-properties2 .ensures) (c4 .if2 .left)))
     (universal-says (c7 .set-properties .ensures) (c3 .if3 .left)))
     (universal-says (c5 .set-properties2 .ensures) (c .before .before .if4 .left))) (less-says (lt-ltb _ _ (c .before .if5 .taken))))
@@ -54,7 +54,7 @@ xor-tests-spec =
     let c5 = c4 .before in
     let c6 = c5 .before in
     let c7 = c6 .before in
-    answer-recalled 2 _ _ _ (xor-memo _ _ _) (no (no
+    answer-recalled _ _ _ _ (xor-memo _ _ _) (no (no
     (no (no (no begin (empty-says (c7 .set-properties .ensures) (c6 .if1 .left))) (empty-says (c5 .set-properties2 .ensures) (c4 .if2 .left)))
     (universal-says (c7 .set-properties .ensures) (c3 .if3 .left)))
     (universal-says (c5 .set-properties2 .ensures) (c .before .before .if4 .left))) (less-says (le-ltb _ _ (c .before .if5 .left))))

@@ -3,7 +3,7 @@ use mathlib.Core.Path.{_≡_, refl, _∙_}
 use Prim.Native.Nat.{_+_, _-_, _*_, _≤_}
 use native.Mathlib.Omega.{arith}
 use lib.ListN.{length, drop}
-use Rattle.judging.specs.Memory.{memories}
+use Rattle.store_check.specs.Memory.{memories}
 use Rattle.listing.specs.Lines.{lines}
 use Rattle.listing.proofs.Listed.{rest, line-more, no-more}
 use borrow.Author.Needs.{needs}

@@ -17,7 +17,7 @@ abbrev μ-loop : tie.MeasureT-loop
 μ-loop nodes work at n x b v₀ v = v
 
 loop-holds : tie.Need-loop-holds Inv-loop μ-loop
-loop-holds c = let hash = c .before .before .hash in trail-start _ _ _ _ _ _ _ (hash .ensures .0) (hash .ensures .1) (c .wide .ensures)
+loop-holds c = let hash = c .before .before .hash in trail-start _ _ _ _ _ _ _ (hash .ensures .0) (hash .ensures .1) (c .as-index .ensures)
 
 returns : tie.Need-returns Inv-loop μ-loop
 returns c = let loop = c .before .before .loop in trail-past _ _ _ _ _ (omega arith) (loop .v) (omega arith) (loop .inv)
@@ -33,14 +33,14 @@ returns-2 c good e ix = finds-at _ _ _ good _ (omega arith) (c .before .same .en
 returns-3 : tie.Need-returns-3 Inv-loop μ-loop
 returns-3 c =
     let v = c .before .before .before .before .before .before .before .loop .v in
-    trail-wrong _ _ _ _ _ (omega arith) v (c .before .wide2 .result) (omega arith) (omega arith) (c .before .wide2 .ensures) (omega arith)
+    trail-wrong _ _ _ _ _ (omega arith) v (c .before .as-index2 .result) (omega arith) (omega arith) (c .before .as-index2 .ensures) (omega arith)
 
 loop-again : tie.Need-loop-again Inv-loop μ-loop
 loop-again c =
     let place = c .before .before .before in
     let loop = place .before .before .before .before .loop in
-    trail-next _ _ _ _ _ (loop .v) (c .before .wide2 .result) (omega arith) (omega arith) (place .before .same .ensures .1 (place .if2 .left))
-    (c .before .wide2 .ensures)
+    trail-next _ _ _ _ _ (loop .v) (c .before .as-index2 .result) (omega arith) (omega arith) (place .before .same .ensures .1 (place .if2 .left))
+    (c .before .as-index2 .ensures)
     (loop .inv)
 
 returns-4 : tie.Need-returns-4 Inv-loop μ-loop

@@ -7,7 +7,7 @@ use Rattle.memory.proofs.memo.remember.Statement.{statement}
 use Rattle.memory.proofs.memo.remember.Tie as tie
 
 returns-2 : tie.Need-returns-2
-returns-2 c = (refl, record { kept = λ t. absurd (false≢true (sym (c .if1 .left) ∙ t)); wide = refl })
+returns-2 c = (refl, record { kept = λ t. absurd (false≢true (sym (c .if1 .left) ∙ t)); work-length = refl })
 
 pub remember-spec : {M : Type 1} → statement M
 remember-spec = tie.close (tie.spec (λ c κs. search needs) (λ c. search needs) (λ c. search needs) returns-2)

@@ -8,7 +8,7 @@ use Rattle.relations.proofs.Naming.{fields-zero, fields-step}
 use Rattle.relations.proofs.fields.fields.Reads as fields
 use Rattle.relations.proofs.fields.fields.Kinds as fields-kinds
 use Rattle.relations.proofs.fields.+fields.Lts-fields as fields-lts
-use Rattle.memory.proofs.place.give.Reads as give-reads
+use Rattle.memory.proofs.insert.with_handle.Reads as with-handle-reads
 use Rattle.relations.proofs.fields.field.Reads as field-reads
 use Rattle.relations.proofs.mk.Reads as mk-reads
 use Rattle.relations.proofs.fields.+fields.{statement}
@@ -24,13 +24,13 @@ abbrev fields-below : ℕ → In 2 fields-kinds.ps
 fields-below t = and 2 fields-kinds.ps (falls 2 fields-kinds.ps _<_ μ-fields t) fields.Pre
 
 abbrev calls : ℕ → fields-lts.Claims
-calls t = (give-reads.Asked, give-reads.Learnt, field-reads.Asked, field-reads.Learnt, mk-reads.Asked, mk-reads.Learnt, fields-below t, fields.Post)
+calls t = (with-handle-reads.Asked, with-handle-reads.Learnt, field-reads.Asked, field-reads.Learnt, mk-reads.Asked, mk-reads.Learnt, fields-below t, fields.Post)
 
 pub +fields-spec : {M : Type 1} → statement M
 +fields-spec = close μ-fields
     (λ t. fields-lts.spec (calls t) (fields-at t) fields.Post
     (λ c κs. search needs)
-    (λ c. performs-by (fields-zero _ _ _ _ _ (c .before .if1 .taken)) (performs-ret _ (c .give .ensures)))
+    (λ c. performs-by (fields-zero _ _ _ _ _ (c .before .if1 .taken)) (performs-ret _ (c .with-handle .ensures)))
     (λ c. search needs)
     (λ c κs. search needs)
     (λ c κs. search needs)

@@ -1,6 +1,6 @@
 -- `assign` is kept in the memo.
 use borrow.Author.Needs.{needs}
-use Rattle.nodes.specs.Operations.{assign}
+use Rattle.model.specs.Operations.{assign}
 use Rattle.relations.proofs.fields.assign.Statement.{statement}
 use Rattle.relations.proofs.fields.assign.Tie as tie
 

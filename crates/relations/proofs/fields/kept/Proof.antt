@@ -25,8 +25,8 @@ kept-spec =
     let c7 = c6 .before in
     let c8 = c7 .before in
     let c12 = c8 .before .before .before .before in
-    given (not-false _ (c8 .if1 .left)) (recalled _ _ _ _ (fields-memo (c12 .args .assigns) _ _ _ _ _ (c7 .number .ensures .0) (c6 .bit .ensures)) begin
-    (c4 .recall .ensures) (c .before .before .found .given .1)) (c .give .ensures))
+    given (not-false _ (c8 .if1 .left)) (recalled _ _ _ _ (fields-memo (c12 .args .assigns) _ _ _ _ _ (c7 .memo-number .ensures .0) (c6 .bit .ensures)) begin
+    (c4 .recall .ensures) (c .before .before .found .given .1)) (c .with-handle .ensures))
     (λ c. search needs)
     (λ c κs. search needs)
     (λ c κs. search needs)
@@ -39,5 +39,5 @@ kept-spec =
     let c17 = c16 .before in
     let c21 = c17 .before .before .before .before in
     called-kept _ _ _ _ (not-false _ (c17 .if1 .left)) (omega (arith, c21 .fits .k .fits))
-    (fields-memo (c21 .args .assigns) _ _ _ _ _ (c16 .number .ensures .0) (c15 .bit .ensures)) begin (c8 .fields .ensures)
+    (fields-memo (c21 .args .assigns) _ _ _ _ _ (c16 .memo-number .ensures .0) (c15 .bit .ensures)) begin (c8 .fields .ensures)
     (c .before .before .remember .ensures)))

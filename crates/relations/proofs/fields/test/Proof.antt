@@ -1,6 +1,6 @@
 -- `test` is kept in the memo.
 use borrow.Author.Needs.{needs}
-use Rattle.nodes.specs.Operations.{test}
+use Rattle.model.specs.Operations.{test}
 use Rattle.relations.proofs.fields.test.Statement.{statement}
 use Rattle.relations.proofs.fields.test.Tie as tie
 

@@ -3,7 +3,7 @@ use borrow.Author.Needs.{needs}
 use Rattle.memory.proofs.Steps.{begin, yes, no, empty-says, universal-says}
 use Rattle.memory.proofs.Remembering.{answer-recalled}
 use Rattle.relations.proofs.Opened.{difference-memo}
-use Rattle.relations.proofs.Ways.{way-answer, way-other, way-found}
+use Rattle.relations.proofs.ShortcutLaws.{shortcut-answer, shortcut-delegate, shortcut-lookup}
 use Rattle.relations.proofs.shortcuts.difference_tests.Statement.{statement}
 use Rattle.relations.proofs.shortcuts.difference_tests.Tie as tie
 
@@ -12,16 +12,16 @@ difference-tests-spec =
     tie.close
     (tie.spec
     (λ c κs. search needs)
-    (λ c. way-answer (yes begin (empty-says (c .before .relation-properties .ensures) (c .if1 .taken))))
+    (λ c. shortcut-answer (yes begin (empty-says (c .before .relation-properties .ensures) (c .if1 .taken))))
     (λ c κs. search needs)
     (λ c.
     let c3 = c .before .before .before in
-    way-answer (yes (no begin (empty-says (c3 .relation-properties .ensures) (c .before .before .if1 .left)))
+    shortcut-answer (yes (no begin (empty-says (c3 .relation-properties .ensures) (c .before .before .if1 .left)))
     (empty-says (c .before .relation-properties2 .ensures) (c .if2 .taken))))
     (λ c.
     let c3 = c .before .before .before in
     let c4 = c3 .before in
-    way-other (yes (no (no begin (empty-says (c4 .relation-properties .ensures) (c3 .if1 .left)))
+    shortcut-delegate (yes (no (no begin (empty-says (c4 .relation-properties .ensures) (c3 .if1 .left)))
     (empty-says (c .before .before .relation-properties2 .ensures) (c .before .if2 .left)))
     (universal-says (c4 .relation-properties .ensures) (c .if3 .taken))))
     (λ c κs. search needs)
@@ -31,7 +31,7 @@ difference-tests-spec =
     let c4 = c3 .before in
     let c5 = c4 .before in
     let c6 = c5 .before in
-    way-found (no (no (no begin (empty-says (c6 .relation-properties .ensures) (c5 .if1 .left)))
+    shortcut-lookup (no (no (no begin (empty-says (c6 .relation-properties .ensures) (c5 .if1 .left)))
     (empty-says (c4 .relation-properties2 .ensures) (c3 .if2 .left)))
     (universal-says (c6 .relation-properties .ensures) (c .before .before .if3 .left)))
-    (answer-recalled 7 _ _ _ (difference-memo _ _ _) begin (c .before .recall .ensures)) (c .way-of .ensures)))
+    (answer-recalled _ _ _ _ (difference-memo _ _ _) begin (c .before .recall .ensures)) (c .shortcut-of .ensures)))

@@ -1,7 +1,7 @@
 -- `lattice_tests` knows what the properties and the memo say of a union or an intersection.
 use borrow.Author.Needs.{needs}
 use Rattle.memory.proofs.Steps.{begin, yes, no, empty-says, universal-says, answer}
-use Rattle.relations.proofs.Ways.{answers-later}
+use Rattle.relations.proofs.ShortcutLaws.{answers-later}
 use Rattle.relations.proofs.shortcuts.lattice_tests.Statement.{statement}
 use Rattle.relations.proofs.shortcuts.lattice_tests.Tie as tie
 

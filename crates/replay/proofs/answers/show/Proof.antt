@@ -3,8 +3,8 @@ use mathlib.Core.Path.{_≡_, refl, sym, ap, subst, _∙_}
 use mathlib.Core.List.{[], _∷_}
 use Prim.Native.Nat.{ℕ}
 use native.Mathlib.Omega.{arith}
-use Rattle.outcomes.specs.declared.Answer.{Answer}
-use Rattle.outcomes.specs.declared.Answer.the-variants.{Truth}
+use Rattle.call_rules.specs.declared.Answer.{Answer}
+use Rattle.call_rules.specs.declared.Answer.the-variants.{Truth}
 use Rattle.replay.specs.Showing.{Shows}
 use Rattle.replay.specs.declared.answers.Shown.{Shown}
 use borrow.Author.Needs.{needs}

@@ -5,7 +5,7 @@ use Prim.Native.Nat.{ℕ, _-_, _≤_}
 use native.Mathlib.Omega.{arith}
 use lib.ListN.{length}
 use borrow.Author.Needs.{needs}
-use Rattle.replay.specs.Lending.{Lends, Goes}
+use Rattle.replay.specs.Lending.{Lends, StepLends}
 use Rattle.replay.specs.declared.runs.Lent.{Lent}
 use Rattle.replay.specs.declared.runs.Step.{Step}
 use Rattle.replay.specs.declared.runs.Step.the-variants.{On}
@@ -25,8 +25,8 @@ abbrev μ-loop : tie.MeasureT-loop
 μ-loop text relations₀ sets₀ work₀ lent₀ from₀ line₀ relations sets work lent from line = length text - from
 
 -- what a step lends
-lends : (t : Step) (l : Lent) (r s : List ℕ) → t ≡ On l → Goes t r s → Lends l r s
-lends t l r s on = subst (λ (t : Step). Goes t r s) on
+lends : (t : Step) (l : Lent) (r s : List ℕ) → t ≡ On l → StepLends t r s → Lends l r s
+lends t l r s on = subst (λ (t : Step). StepLends t r s) on
 
 loop-holds : tie.Need-loop-holds Inv-loop μ-loop
 loop-holds c = search needs

@@ -1,6 +1,6 @@
 -- A call is lent the heads, and no more than there is.
-use Rattle.nodes.specs.Store.{set, rel}
-use Rattle.judging.specs.Memory.{head}
+use Rattle.model.specs.Store.{set, rel}
+use Rattle.store_check.specs.Memory.{head}
 use Rattle.replay.proofs.Prefix.{prefix, prefix-long}
 use borrow.Author.Needs.{needs}
 use Rattle.replay.proofs.runs.run_line.Statement.{statement}

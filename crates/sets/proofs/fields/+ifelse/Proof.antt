@@ -14,7 +14,7 @@ use Rattle.sets.proofs.fields.ifelse.Kinds as ifelse-kinds
 use Rattle.sets.proofs.fields.+ifelse.Lts-ifelse as ifelse-lts
 use Rattle.memory.proofs.memo.recall.Reads as recall-reads
 use Rattle.memory.proofs.memo.remember.Reads as remember-reads
-use Rattle.memory.proofs.place.give.Reads as give-reads
+use Rattle.memory.proofs.insert.with_handle.Reads as with-handle-reads
 use Rattle.sets.proofs.get.Reads as get-reads
 use Rattle.sets.proofs.mk.Reads as mk-reads
 use Rattle.sets.proofs.fields.+ifelse.{statement}
@@ -33,8 +33,8 @@ abbrev calls : ℕ → ifelse-lts.Claims
 calls t = (
   recall-reads.Asked,
   recall-reads.Learnt,
-  give-reads.Asked,
-  give-reads.Learnt,
+  with-handle-reads.Asked,
+  with-handle-reads.Learnt,
   get-reads.Asked,
   get-reads.Learnt,
   mk-reads.Asked,
@@ -60,7 +60,7 @@ pub +ifelse-spec : {M : Type 1} → statement M
     let c7 = c4 .before .before .before in
     let c11 = c7 .before .before .before .before in
     given (not-false _ (c7 .if1 .left)) (recalled _ _ _ _ (ifelse-memo _ _ _ _ (omega (arith, c11 .fits .var .fits))) begin (c4 .recall .ensures)
-    (c .before .before .found .given .1)) (c .give .ensures))
+    (c .before .before .found .given .1)) (c .with-handle .ensures))
     (λ c. search needs)
     (λ c κs. search needs)
     (λ c κs. search needs)

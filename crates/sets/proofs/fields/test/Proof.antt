@@ -25,7 +25,7 @@ test-spec =
     let c21 = c14 .before .before .before .before .before .before .before in
     let c22 = c21 .before in
     test-returns _ _ _ true (c22 .fields-after .ensures) (c21 .zero-at-depth .ensures) (c14 .other .ensures) (c13 .mk .ensures) (c6 .raise .ensures)
-    (c .before .if1 .taken) refl (c .give .ensures))
+    (c .before .if1 .taken) refl (c .with-handle .ensures))
     (λ c κs. search needs)
     (λ c κs. search needs)
     (λ c. search needs)
@@ -37,4 +37,4 @@ test-spec =
     let c22 = c15 .before .before .before .before .before .before .before in
     let c23 = c22 .before in
     test-returns _ _ _ false (c23 .fields-after .ensures) (c22 .zero-at-depth .ensures) (c15 .other .ensures) (c14 .mk .ensures) (c7 .raise .ensures)
-    (c .before .before .if1 .left) (c .before .other2 .ensures) (c .give2 .ensures)))
+    (c .before .before .if1 .left) (c .before .other2 .ensures) (c .with-handle2 .ensures)))

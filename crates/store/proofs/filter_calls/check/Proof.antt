@@ -1,12 +1,12 @@
--- `check` says how a call on sets goes on: by the check of its operands.
+-- `check` is what a call on sets declines, or the level of its operands.
 use mathlib.Core.Path.{_≡_, refl, sym, subst}
 use mathlib.Core.List.{List}
 use Prim.Native.Nat.{ℕ}
 use borrow.Author.Needs.{needs}
-use Rattle.nodes.specs.Store.{set}
-use Rattle.outcomes.specs.Checking.{Checks}
+use Rattle.model.specs.Store.{set}
+use Rattle.call_rules.specs.Checking.{Checks}
 use Rattle.store.specs.ImageCalls.{filter-declines}
-use Rattle.outcomes.specs.declared.Check.{Check}
+use Rattle.call_rules.specs.declared.Check.{Check}
 use Rattle.store.specs.declared.filter_calls.FilterCall.{FilterCall}
 use Rattle.store.proofs.filter_calls.check.Statement.{statement}
 use Rattle.store.proofs.filter_calls.check.Tie as tie

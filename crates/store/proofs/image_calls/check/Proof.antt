@@ -1,14 +1,14 @@
--- `check` says how a call on relations and sets goes on: by the check of its operands.
+-- `check` is what a call on relations and sets declines, or the level of its operands.
 use mathlib.Core.Path.{_≡_, refl, sym, subst}
 use mathlib.Core.List.{List}
 use Prim.Native.Nat.{ℕ}
 use borrow.Author.Needs.{needs}
-use Rattle.nodes.specs.Store.{rel}
-use Rattle.outcomes.specs.Checking.{ChecksBoth}
+use Rattle.model.specs.Store.{rel}
+use Rattle.call_rules.specs.Checking.{ChecksBoth}
 use Rattle.store.specs.ImageCalls.{image-declines}
-use Rattle.outcomes.specs.declared.Check.{Check}
+use Rattle.call_rules.specs.declared.Check.{Check}
 use Rattle.store.specs.declared.image_calls.ImageCall.{ImageCall}
-use Rattle.outcomes.proofs.TwoKinds.{checks-relations}
+use Rattle.call_rules.proofs.TwoKinds.{checks-relations}
 use Rattle.store.proofs.image_calls.check.Statement.{statement}
 use Rattle.store.proofs.image_calls.check.Tie as tie
 

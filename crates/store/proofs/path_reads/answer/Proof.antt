@@ -3,15 +3,15 @@ use mathlib.Core.Path.{_≡_, refl, sym, subst}
 use mathlib.Core.List.{List}
 use Prim.Native.Nat.{ℕ}
 use borrow.Author.Needs.{needs}
-use Rattle.nodes.specs.Store.{set}
-use Rattle.nodes.proofs.ReadOnly.{has-image-read-only, has-path-read-only}
-use Rattle.memory.specs.Arena.{Condition}
-use Rattle.outcomes.specs.Checking.{AnsweredOn}
+use Rattle.model.specs.Store.{set}
+use Rattle.model.proofs.ReadOnly.{has-image-read-only, has-path-read-only}
+use Rattle.memory.specs.Performing.{Condition}
+use Rattle.call_rules.specs.Checking.{AnsweredOn}
 use Rattle.store.specs.ImageCalls.{path-answer}
 use Rattle.store.specs.ImageChecking.{PathSafe}
-use Rattle.outcomes.specs.declared.Answer.{Answer}
+use Rattle.call_rules.specs.declared.Answer.{Answer}
 use Rattle.store.specs.declared.path_reads.PathRead.{PathRead}
-use Rattle.outcomes.proofs.Reading.{reads-truth}
+use Rattle.call_rules.proofs.Reading.{reads-truth}
 use Rattle.store.proofs.path_reads.answer.Statement.{statement}
 use Rattle.store.proofs.path_reads.answer.Tie as tie
 

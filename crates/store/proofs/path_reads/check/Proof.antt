@@ -1,11 +1,11 @@
--- `check` says how a call on relations and sets goes on: by the check of its operands.
+-- `check` is what a call on relations and sets declines, or the level of its operands.
 use mathlib.Core.Path.{_≡_, sym, subst}
 use mathlib.Core.List.{List}
 use Prim.Native.Nat.{ℕ}
 use borrow.Author.Needs.{needs}
-use Rattle.outcomes.specs.Checking.{ChecksBoth}
+use Rattle.call_rules.specs.Checking.{ChecksBoth}
 use Rattle.store.specs.ImageCalls.{path-declines}
-use Rattle.outcomes.specs.declared.Check.{Check}
+use Rattle.call_rules.specs.declared.Check.{Check}
 use Rattle.store.specs.declared.path_reads.PathRead.{PathRead}
 use Rattle.store.proofs.path_reads.check.Statement.{statement}
 use Rattle.store.proofs.path_reads.check.Tie as tie

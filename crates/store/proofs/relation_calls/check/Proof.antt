@@ -1,13 +1,13 @@
--- `check` says how a call on relations goes on: by the check of its operands.
+-- `check` is what a call on relations declines, or the level of its operands.
 use mathlib.Core.Path.{_≡_, refl, sym, subst}
 use mathlib.Core.List.{List}
 use Prim.Native.Nat.{ℕ}
 use native.Mathlib.Omega.{arith}
 use borrow.Author.Needs.{needs}
-use Rattle.nodes.specs.Store.{rel}
-use Rattle.outcomes.specs.Checking.{Checks}
+use Rattle.model.specs.Store.{rel}
+use Rattle.call_rules.specs.Checking.{Checks}
 use Rattle.store.specs.RelationCalls.{relation-declines}
-use Rattle.outcomes.specs.declared.Check.{Check}
+use Rattle.call_rules.specs.declared.Check.{Check}
 use Rattle.store.specs.declared.relation_calls.RelationCall.{RelationCall}
 use Rattle.store.proofs.relation_calls.check.Statement.{statement}
 use Rattle.store.proofs.relation_calls.check.Tie as tie
@@ -49,7 +49,7 @@ check-spec =
     (λ c κs. search needs)
     (λ c. search needs)
     (λ c κs. search needs)
-    (λ c. of-call (c .before .before .call .given .1) (c .four .ensures rel refl))
+    (λ c. of-call (c .before .before .call .given .1) (c .four-children .ensures rel refl))
     (λ c. of-call (c .enum-told .given .1) (record { says = λ B f F. refl; low = omega arith }))
     (λ c. of-call (c .enum-told2 .given .1) (record { says = λ B f F. refl; low = omega arith }))
     (λ c. of-call (c .enum-told3 .given .1) (record { says = λ B f F. refl; low = omega arith }))

@@ -3,8 +3,8 @@ use mathlib.Core.Path.{_≡_, sym, ap, _∙_, subst}
 use Prim.Native.Nat.{ℕ}
 use lib.Dec.{eqb}
 use borrow.Author.Needs.{needs}
-use Rattle.nodes.specs.Store.{rel}
-use Rattle.nodes.specs.Operations.{test, assign}
+use Rattle.model.specs.Store.{rel}
+use Rattle.model.specs.Operations.{test, assign}
 use Rattle.memory.proofs.Steps.{performs-by}
 use Rattle.store.specs.RelationCalls.{relation-program}
 use Rattle.store.specs.RelationChecking.{RelationFieldFits}
@@ -96,14 +96,14 @@ returns-13 c =
     let c4 = c .before .before .before .before in
     let c5 = c4 .before in
     let c9 = c5 .before .before .before .before in
-    performs-by (test-is _ _ (c9 .call10 .given .1) (c5 .narrow .ensures)) (c4 .test .ensures)
+    performs-by (test-is _ _ (c9 .call10 .given .1) (c5 .as-level .ensures)) (c4 .test .ensures)
 
 returns-14 : tie.Need-returns-14
 returns-14 c =
     let c4 = c .before .before .before .before in
     let c5 = c4 .before in
     let c9 = c5 .before .before .before .before in
-    performs-by (assign-is _ _ (c9 .call11 .given .1) (c5 .narrow2 .ensures)) (c4 .assign .ensures)
+    performs-by (assign-is _ _ (c9 .call11 .given .1) (c5 .as-level2 .ensures)) (c4 .assign .ensures)
 
 returns-15 : tie.Need-returns-15
 returns-15 c =
@@ -117,14 +117,14 @@ returns-16 c =
     let c8 = c4 .before .before .before .before in
     performs-by (ap (relation-program _ _) (c8 .call13 .given .1)) (c4 .backward .ensures)
 
-narrow-requires : tie.Need-narrow-requires
-narrow-requires c κs =
+as-level-requires : tie.Need-as-level-requires
+as-level-requires c κs =
     let c3 = c .before .before .before in
     let c7 = c3 .before .before .before .before in
     subst RelationFieldFits (c3 .call10 .given .1) (c7 .pre)
 
-narrow-requires-2 : tie.Need-narrow-requires-2
-narrow-requires-2 c κs =
+as-level-requires-2 : tie.Need-as-level-requires-2
+as-level-requires-2 c κs =
     let c3 = c .before .before .before in
     let c7 = c3 .before .before .before .before in
     subst RelationFieldFits (c3 .call11 .given .1) (c7 .pre)
@@ -158,10 +158,10 @@ perform-spec =
     (λ c. search needs)
     (λ c κs. search needs)
     (λ c. search needs)
-    narrow-requires
+    as-level-requires
     (λ c κs. search needs)
     (λ c. search needs)
-    narrow-requires-2
+    as-level-requires-2
     (λ c κs. search needs)
     (λ c. search needs)
     (λ c κs. search needs)

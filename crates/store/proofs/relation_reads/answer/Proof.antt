@@ -3,16 +3,16 @@ use mathlib.Core.Path.{_≡_, refl, sym, ap, subst}
 use mathlib.Core.List.{List}
 use Prim.Native.Nat.{ℕ}
 use borrow.Author.Needs.{needs}
-use Rattle.nodes.specs.Recursion.{x00, x01, x10, x11}
-use Rattle.nodes.specs.Store.{rel}
-use Rattle.nodes.proofs.ReadOnly.{is-zero-read-only}
-use Rattle.outcomes.specs.Checking.{Answered}
+use Rattle.model.specs.Recursion.{x00, x01, x10, x11}
+use Rattle.model.specs.Store.{rel}
+use Rattle.model.proofs.ReadOnly.{is-zero-read-only}
+use Rattle.call_rules.specs.Checking.{Answered}
 use Rattle.store.specs.RelationCalls.{relation-read-answer}
 use Rattle.store.specs.RelationChecking.{RelationReadSafe}
-use Rattle.outcomes.specs.declared.Answer.{Answer}
-use Rattle.outcomes.specs.declared.Answer.the-variants.{Truth, RelationNode}
+use Rattle.call_rules.specs.declared.Answer.{Answer}
+use Rattle.call_rules.specs.declared.Answer.the-variants.{Truth, RelationNode}
 use Rattle.store.specs.declared.relation_reads.RelationRead.{RelationRead}
-use Rattle.outcomes.proofs.Reading.{reads-truth, reads-node}
+use Rattle.call_rules.proofs.Reading.{reads-truth, reads-node}
 use Rattle.store.proofs.relation_reads.answer.Statement.{statement}
 use Rattle.store.proofs.relation_reads.answer.Tie as tie
 

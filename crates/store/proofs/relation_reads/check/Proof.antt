@@ -1,12 +1,12 @@
--- `check` says how a call that adds nothing goes on: by the check of its operand.
+-- `check` is what a call that adds nothing declines, or the level of its operands.
 use mathlib.Core.Path.{_≡_, refl, sym, subst}
 use mathlib.Core.List.{List}
 use Prim.Native.Nat.{ℕ}
 use borrow.Author.Needs.{needs}
-use Rattle.nodes.specs.Store.{rel}
-use Rattle.outcomes.specs.Checking.{Checks}
+use Rattle.model.specs.Store.{rel}
+use Rattle.call_rules.specs.Checking.{Checks}
 use Rattle.store.specs.RelationCalls.{relation-read-declines}
-use Rattle.outcomes.specs.declared.Check.{Check}
+use Rattle.call_rules.specs.declared.Check.{Check}
 use Rattle.store.specs.declared.relation_reads.RelationRead.{RelationRead}
 use Rattle.store.proofs.relation_reads.check.Statement.{statement}
 use Rattle.store.proofs.relation_reads.check.Tie as tie

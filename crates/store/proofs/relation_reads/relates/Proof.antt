@@ -3,11 +3,11 @@ use mathlib.Core.Path.{_≡_, refl}
 use Prim.Native.Nat.{ℕ, _-_, _/_, _%_, _^_, _≤_}
 use native.Mathlib.Omega.{arith}
 use borrow.Author.Needs.{needs}
-use Rattle.nodes.specs.Store.{rel, Store}
-use Rattle.nodes.specs.WellFormed.{Held}
-use Rattle.nodes.proofs.FieldOrder.{pow-pos}
+use Rattle.model.specs.Store.{rel, Store}
+use Rattle.model.specs.WellFormed.{Held}
+use Rattle.model.proofs.FieldOrder.{pow-pos}
 use Rattle.memory.specs.Rows.{places, plain}
-use Rattle.outcomes.proofs.Walking.{pow-half, Walking, walking-starts, walking-within, walking-next, walking-ends}
+use Rattle.call_rules.proofs.Walking.{pow-half, Walking, walking-starts, walking-within, walking-next, walking-ends}
 use Rattle.store.proofs.relation_reads.relates.Statement.{statement}
 use Rattle.store.proofs.relation_reads.relates.Tie as tie
 
@@ -32,7 +32,7 @@ loop-again c = (
       let c3 = c .before .before .before in
       let W = c3 .before .loop .inv .1 B n f A in
       let g = c3 .loop-test .taken in
-      walking-next _ _ _ _ g (bit (c .before .before .wide .ensures) (half c3)) (bit (c .before .wide2 .ensures) (half c3))
+      walking-next _ _ _ _ g (bit (c .before .before .as-u64 .ensures) (half c3)) (bit (c .before .as-u642 .ensures) (half c3))
       (c .child-of .ensures rel B n refl f (walking-within _ g W)) W,
 )
 

@@ -1,13 +1,13 @@
--- `check` says how a call on sets goes on: by the check of its operands.
+-- `check` is what a call on sets declines, or the level of its operands.
 use mathlib.Core.Path.{_≡_, refl, sym, subst}
 use mathlib.Core.List.{List}
 use Prim.Native.Nat.{ℕ}
 use native.Mathlib.Omega.{arith}
 use borrow.Author.Needs.{needs}
-use Rattle.nodes.specs.Store.{set}
+use Rattle.model.specs.Store.{set}
 use Rattle.store.specs.SetCalls.{set-declines}
-use Rattle.outcomes.specs.Checking.{Checks}
-use Rattle.outcomes.specs.declared.Check.{Check}
+use Rattle.call_rules.specs.Checking.{Checks}
+use Rattle.call_rules.specs.declared.Check.{Check}
 use Rattle.store.specs.declared.set_calls.SetCall.{SetCall}
 use Rattle.store.proofs.set_calls.check.Statement.{statement}
 use Rattle.store.proofs.set_calls.check.Tie as tie
@@ -36,7 +36,7 @@ check-spec =
     (λ c κs. search needs)
     (λ c. search needs)
     (λ c κs. search needs)
-    (λ c. of-call (c .before .before .call .given .1) (c .children .ensures set refl))
+    (λ c. of-call (c .before .before .call .given .1) (c .two-children .ensures set refl))
     (λ c. of-call (c .enum-told .given .1) (record { says = λ B f F. refl; low = omega arith }))
     (λ c. of-call (c .enum-told2 .given .1) (record { says = λ B f F. refl; low = omega arith }))
     (λ c. of-call (c .before .before .call2 .given .1) (c .two .ensures set refl))

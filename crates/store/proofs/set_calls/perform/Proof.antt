@@ -3,9 +3,9 @@ use mathlib.Core.Path.{_≡_, sym, ap, _∙_, subst}
 use Prim.Native.Nat.{ℕ}
 use lib.Dec.{eqb}
 use borrow.Author.Needs.{needs}
-use Rattle.nodes.specs.Store.{set}
-use Rattle.nodes.specs.Operations.{test}
-use Rattle.nodes.specs.Sets.{ifelse}
+use Rattle.model.specs.Store.{set}
+use Rattle.model.specs.Operations.{test}
+use Rattle.model.specs.Sets.{ifelse}
 use Rattle.memory.proofs.Steps.{performs-by}
 use Rattle.store.specs.SetCalls.{set-program}
 use Rattle.store.specs.SetChecking.{SetFieldFits}
@@ -67,23 +67,23 @@ returns-8 c =
     let c4 = c .before .before .before .before in
     let c5 = c4 .before in
     let c9 = c5 .before .before .before .before in
-    performs-by (test-is _ _ (c9 .call6 .given .1) (c5 .narrow .ensures)) (c4 .test .ensures)
+    performs-by (test-is _ _ (c9 .call6 .given .1) (c5 .as-level .ensures)) (c4 .test .ensures)
 
 returns-9 : tie.Need-returns-9
 returns-9 c =
     let c4 = c .before .before .before .before in
     let c5 = c4 .before in
     let c9 = c5 .before .before .before .before in
-    performs-by (ifelse-is _ _ (c9 .call7 .given .1) (c5 .narrow2 .ensures)) (c4 .ifelse .ensures)
+    performs-by (ifelse-is _ _ (c9 .call7 .given .1) (c5 .as-level2 .ensures)) (c4 .ifelse .ensures)
 
-narrow-requires : tie.Need-narrow-requires
-narrow-requires c κs =
+as-level-requires : tie.Need-as-level-requires
+as-level-requires c κs =
     let c3 = c .before .before .before in
     let c7 = c3 .before .before .before .before in
     subst SetFieldFits (c3 .call6 .given .1) (c7 .pre)
 
-narrow-requires-2 : tie.Need-narrow-requires-2
-narrow-requires-2 c κs =
+as-level-requires-2 : tie.Need-as-level-requires-2
+as-level-requires-2 c κs =
     let c3 = c .before .before .before in
     let c7 = c3 .before .before .before .before in
     subst SetFieldFits (c3 .call7 .given .1) (c7 .pre)
@@ -107,10 +107,10 @@ perform-spec =
     (λ c. search needs)
     (λ c κs. search needs)
     (λ c. search needs)
-    narrow-requires
+    as-level-requires
     (λ c κs. search needs)
     (λ c. search needs)
-    narrow-requires-2
+    as-level-requires-2
     (λ c κs. search needs)
     (λ c. search needs)
     (λ c. search needs)

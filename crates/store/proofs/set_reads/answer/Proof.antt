@@ -3,16 +3,16 @@ use mathlib.Core.Path.{_≡_, refl, sym, ap, subst}
 use mathlib.Core.List.{List}
 use Prim.Native.Nat.{ℕ}
 use borrow.Author.Needs.{needs}
-use Rattle.nodes.specs.Recursion.{x0, x1}
-use Rattle.nodes.specs.Store.{set}
-use Rattle.nodes.proofs.ReadOnly.{is-zero-read-only, intersects-read-only}
-use Rattle.outcomes.specs.Checking.{Answered}
+use Rattle.model.specs.Recursion.{x0, x1}
+use Rattle.model.specs.Store.{set}
+use Rattle.model.proofs.ReadOnly.{is-zero-read-only, intersects-read-only}
+use Rattle.call_rules.specs.Checking.{Answered}
 use Rattle.store.specs.SetCalls.{set-read-answer}
 use Rattle.store.specs.SetChecking.{SetReadSafe}
-use Rattle.outcomes.specs.declared.Answer.{Answer}
-use Rattle.outcomes.specs.declared.Answer.the-variants.{Handle, SetNode}
+use Rattle.call_rules.specs.declared.Answer.{Answer}
+use Rattle.call_rules.specs.declared.Answer.the-variants.{Handle, SetNode}
 use Rattle.store.specs.declared.set_reads.SetRead.{SetRead}
-use Rattle.outcomes.proofs.Reading.{reads-truth, reads-node, reads-number}
+use Rattle.call_rules.proofs.Reading.{reads-truth, reads-node, reads-number}
 use Rattle.store.proofs.set_reads.answer.Statement.{statement}
 use Rattle.store.proofs.set_reads.answer.Tie as tie
 

@@ -1,0 +1,10 @@
+pub mod Handles
+pub mod TwoKinds
+pub mod Walking
+pub mod Writing
+pub mod Encoding
+pub mod Outcomes
+pub mod Running
+pub mod CallSteps
+pub mod Reading
+pub mod Declining

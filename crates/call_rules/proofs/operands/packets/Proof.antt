@@ -1,0 +1,110 @@
+-- `packets` answers the operand's level where both packets are numbers below 2 to the power of it.
+use mathlib.Core.Path.{_≡_, refl, subst}
+use mathlib.Core.Bool.{true, false}
+use Prim.Native.Nat.{ℕ, _^_, _<_, _≤_}
+use native.Mathlib.Omega.{arith}
+use lib.Dec.{ltb}
+use borrow.Author.Needs.{needs}
+use borrow.Author.Tests.{lt-ltb, le-ltb}
+use Rattle.model.specs.Store.{rel}
+use Rattle.call_rules.specs.Checking.{Low}
+use Rattle.call_rules.specs.Outcome.{also}
+use Rattle.call_rules.specs.declared.Check.{Check}
+use Rattle.call_rules.specs.declared.Check.the-variants.{Level, No}
+use Rattle.call_rules.specs.declared.Refusal.the-variants.{OutOfRange}
+use Rattle.call_rules.proofs.Handles.{also-no, also-yes, still-no}
+use Rattle.call_rules.proofs.operands.packets.Statement.{statement}
+use Rattle.call_rules.proofs.operands.packets.Tie as tie
+
+-- a packet against the power of 2 that was computed
+too-big : (x w p l n : ℕ) → w ≡ x → p ≡ 2 ^ n → n ≡ l → p ≤ w → ltb x (2 ^ l) ≡ false
+too-big x w p l n e f g h = le-ltb x (2 ^ l) (subst (λ l. 2 ^ l ≤ x) g (omega (arith, e, f)))
+
+in-range : (x w p l n : ℕ) → w ≡ x → p ≡ 2 ^ n → n ≡ l → w < p → ltb x (2 ^ l) ≡ true
+in-range x w p l n e f g h = lt-ltb x (2 ^ l) (subst (λ l. x < 2 ^ l) g (omega (arith, e, f)))
+
+-- the operand's level is at most 32
+level-low : (c : tie.After-check) → c .check .given .0 .0 ≤ 32
+level-low c =
+    let c4 = c .before .before .before .before in
+    let h = subst (Low _) (c .check .given .1) (c .before .before .one .ensures rel refl .low) in omega (arith, c4 .pre)
+
+-- the first packet is out of range, the second is, or none
+module _ {X r : Check} (l n x y w p : ℕ) (C : X ≡ r) (e : r ≡ Level l) (en : n ≡ l) (ew : w ≡ x) (ep : p ≡ 2 ^ n) where
+  abbrev both : Check
+  both = also (also X OutOfRange (λ l. ltb x (2 ^ l))) OutOfRange (λ l. ltb y (2 ^ l))
+
+  first-out : p ≤ w → both ≡ No OutOfRange
+  first-out h = still-no _ _ (also-no _ (λ l. ltb x (2 ^ l)) C l e (too-big x w p l n ew ep en h)) _ refl
+
+  module _ (u : ℕ) (h : w < p) (eu : u ≡ y) where
+    first-in : also X OutOfRange (λ l. ltb x (2 ^ l)) ≡ Level l
+    first-in = also-yes _ (λ l. ltb x (2 ^ l)) C l e (in-range x w p l n ew ep en h)
+
+    second-out : p ≤ u → both ≡ No OutOfRange
+    second-out g = also-no _ (λ l. ltb y (2 ^ l)) first-in l refl (too-big y u p l n eu ep en g)
+
+    both-in : u < p → both ≡ Level l
+    both-in g = also-yes _ (λ l. ltb y (2 ^ l)) first-in l refl (in-range y u p l n eu ep en g)
+
+returns : tie.Need-returns
+returns c =
+    let c3 = c .before .before .before in
+    let c5 = c3 .before .before in
+    let c7 = c5 .before .before in
+    record {
+      says = λ B f F.
+          first-out _ _ _ _ _ _ (c7 .one .ensures rel refl .says B f F) (c5 .check .given .1) (c3 .as-level .ensures) (c .before .as-u64 .ensures)
+          (c .before .before .power .ensures) (c .if1 .taken);
+      low = tt;
+    }
+
+returns-2 : tie.Need-returns-2
+returns-2 c =
+    let c3 = c .before .before .before in
+    let c5 = c3 .before .before in
+    let c7 = c5 .before .before in
+    let c9 = c7 .before .before in
+    record {
+      says = λ B f F.
+          second-out _ _ _ _ _ _ (c9 .one .ensures rel refl .says B f F) (c7 .check .given .1) (c5 .as-level .ensures) (c3 .as-u64 .ensures)
+          (c3 .before .power .ensures) _ (c .before .before .if1 .left) (c .before .as-u642 .ensures) (c .if2 .taken);
+      low = tt;
+    }
+
+returns-3 : tie.Need-returns-3
+returns-3 c =
+    let c3 = c .before .before .before in
+    let c5 = c3 .before .before in
+    let c7 = c5 .before .before in
+    let c9 = c7 .before .before in
+    record {
+      says = λ B f F.
+          both-in _ _ _ _ _ _ (c9 .one .ensures rel refl .says B f F) (c7 .check .given .1) (c5 .as-level .ensures) (c3 .as-u64 .ensures)
+          (c3 .before .power .ensures) _ (c .before .before .if1 .left) (c .before .as-u642 .ensures) (c .if2 .left);
+      low = subst (Low _) (c7 .check .given .1) (c9 .one .ensures rel refl .low);
+    }
+
+returns-4 : tie.Need-returns-4
+returns-4 c =
+    let e = c .enum-told .given .1 in
+    record {
+      says = λ B f F. still-no _ _ (still-no _ _ (c .before .before .one .ensures rel refl .says B f F) _ e) _ e;
+      low = c .before .before .one .ensures rel refl .low;
+    }
+
+pub packets-spec : {M : Type 1} → statement M
+packets-spec =
+    tie.close
+    (tie.spec
+    (λ c κs. search needs)
+    (λ c. search needs)
+    (λ c κs. let h = level-low (c .before) in omega arith)
+    (λ c κs. let h = level-low (c .before .before) in omega (arith, c .as-level .ensures))
+    (λ c κs. search needs)
+    returns
+    (λ c κs. search needs)
+    returns-2
+    (λ c. search needs)
+    returns-3
+    returns-4)

@@ -1,5 +1,0 @@
-pub mod Memory
-pub mod Valid
-pub mod Judging
-pub mod Commit
-pub mod Reindexing

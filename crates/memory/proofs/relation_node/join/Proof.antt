@@ -1,0 +1,153 @@
+-- `four::join` makes the node that `mk` makes: its returns by the laws of `Joining`, or by the `join` of all nodes where there is no index.
+use mathlib.Core.Path.{_≡_, refl, sym, ap, _∙_, subst}
+use mathlib.Core.List.{List, [], _∷_}
+use mathlib.Core.Bool.{false}
+use Prim.Native.Nat.{ℕ, _*_, _<_, _≤_}
+use native.Mathlib.Omega.{arith}
+use lib.ListN.{length}
+use lib.Seq.{paste}
+use borrow.Author.Needs.{needs}
+use borrow.Author.Tests.{not-true, not-false}
+use Rattle.model.specs.Store.{Kind, set, rel, arity, stored}
+use Rattle.memory.specs.declared.RunState.{RunState}
+use Rattle.memory.specs.Performing.{run-state, Joins, JoinsAs}
+use Rattle.memory.specs.Noting.{Noted}
+use Rattle.memory.specs.Rows.{row, places}
+use Rattle.memory.specs.Working.{memo-size, bucket}
+use Rattle.memory.proofs.Rows.{places-fit, place-fits, paste-row}
+use Rattle.memory.proofs.Joining.{joins-stuck, joins-never, joins-found, joins-full, joins-new}
+use Rattle.memory.proofs.relation_node.join.Statement.{statement}
+use Rattle.memory.proofs.relation_node.join.Tie as tie
+
+-- what `fails` gives
+failed : {x : List ℕ} {s r : RunState} {m w : List ℕ} → r ≡ run-state false (s .n) 0
+    → ((K : Kind) (y : List ℕ) → length x ≡ arity K → x ≡ stored K y → Joins K y s m m w w (run-state false (s .n) 0)) → JoinsAs x s m m w w r
+failed {x} {s} {r} {m} {w} e h = subst (λ q. JoinsAs x s m m w w q) (sym e) (record { small = omega arith; node = h })
+
+-- a node of four numbers is a relation's
+of-relation : (x : List ℕ) (n : ℕ) (w w′ : List ℕ) → Noted rel x n w w′ → (K : Kind) → 4 ≡ arity K → Noted K x n w w′
+of-relation x n w w′ N rel e = N
+of-relation x n w w′ N set e = absurd (omega arith)
+
+-- the bucket of the node that was put is that of its numbers
+bucket-there : (m m′ x : List ℕ) (n : ℕ) → length x ≡ 4 → n < places 4 m → m′ ≡ paste m (4 * n) x 4 → bucket x ≡ bucket (row 4 m′ n)
+bucket-there m m′ x n z l p = sym (ap (λ M. bucket (row 4 M n)) p ∙ ap bucket (paste-row 4 n m x z (place-fits 4 m n l)))
+
+returns : tie.Need-returns
+returns c = c .before .before .before .before .join .ensures
+
+returns-2 : tie.Need-returns-2
+returns-2 c =
+    let a = c .before .before .before .before .before .before .before .args in
+    let x = a .x00 ∷ a .x01 ∷ a .x10 ∷ a .x11 ∷ [] in
+    failed (c .fails .ensures) (λ K y z e. joins-stuck y x (not-true _ (c .before .if2 .taken)))
+
+returns-3 : tie.Need-returns-3
+returns-3 c =
+    let a = c .before .before .before .before .before .before .before .before .before .args in
+    let x = a .x00 ∷ a .x01 ∷ a .x10 ∷ a .x11 ∷ [] in
+    let l : places 4 (a .nodes .now) < a .s .n = omega (arith, c .before .before .places-of .ensures) in
+    failed (c .fails2 .ensures) (λ K y z e. joins-never y x z l)
+
+chase-requires : tie.Need-chase-requires
+chase-requires c κs =
+    let hash = c .before .before .hash in
+    let c4 = c .before .before .before .before in
+    let a = c4 .before .before .before .before .before .before .before .args in
+    let l = c4 .places-of .ensures in
+    (places-fit 4 (a .nodes .now) (a .s .n) (omega (arith, l)), omega arith, omega (arith, l), hash .ensures .1, hash .ensures .0)
+
+returns-4 : tie.Need-returns-4
+returns-4 c =
+    let c6 = c .before .before .before .before .before .before in
+    let c10 = c6 .before .before .before .before in
+    let a = c10 .before .before .before .args in
+    let x = a .x00 ∷ a .x01 ∷ a .x10 ∷ a .x11 ∷ [] in
+    let chase = c .before .chase in
+    record {
+      small = omega (arith, c6 .places-of .ensures);
+      node = λ K y z e. joins-found y x (not-false _ (c6 .before .if2 .left)) z e (chase .result)
+          (λ good ix. chase .ensures good (c10 .memo-size .ensures .0) ix) (c .if4 .taken);
+    }
+
+returns-5 : tie.Need-returns-5
+returns-5 c =
+    let c8 = c .before .before .before .before .before .before .before .before in
+    let c12 = c8 .before .before .before .before in
+    let a = c12 .before .before .before .args in
+    let x = a .x00 ∷ a .x01 ∷ a .x10 ∷ a .x11 ∷ [] in
+    let chase = c .before .before .before .chase in
+    let l : places 4 (a .nodes .now) ≤ a .s .n = omega (arith, c8 .places-of .ensures) in
+    failed (c .fails3 .ensures)
+    (λ K y z e. joins-full y x (not-false _ (c8 .before .if2 .left)) z e (chase .result)
+    (λ good ix. chase .ensures good (c12 .memo-size .ensures .0) ix) (λ h. omega arith) l)
+
+put-requires : tie.Need-put-requires
+put-requires c κs =
+    let c8 = c .before .before .before .before .before .before .before .before in
+    let a = c8 .before .before .before .before .before .before .before .args in
+    place-fits 4 (a .nodes .now) (a .s .n) (omega (arith, c8 .places-of .ensures))
+
+link-requires : tie.Need-link-requires
+link-requires c κs =
+    let c8 = c .before .before .before .before .before .before .before .before in
+    let c16 = c8 .before .before .before .before .before .before .before .before in
+    let hash = c8 .before .before .before .before .before .before .hash in
+    (omega (arith, c .before .before .before .note .kept), omega (arith, c16 .places-of .ensures), hash .ensures .1)
+
+returns-6 : tie.Need-returns-6
+returns-6 c =
+    let c6 = c .before .before .before .before .before .before in
+    let c10 = c6 .before .before .before .before in
+    let c14 = c10 .before .before .before .before in
+    let c17 = c14 .before .before .before in
+    let c19 = c17 .before .before in
+    let c23 = c19 .before .before .before .before in
+    let a = c23 .before .before .before .args in
+    let m = a .nodes .now in
+    let n = a .s .n in
+    let x = a .x00 ∷ a .x01 ∷ a .x10 ∷ a .x11 ∷ [] in
+    let l : n < places 4 m = omega (arith, c19 .places-of .ensures) in
+    let at = c23 .memo-size .ensures .0 in
+    record {
+      small = omega (arith, c19 .places-of .ensures);
+      node = λ K y z e. joins-new y x (not-false _ (c19 .before .if2 .left)) z e (c14 .chase .result)
+          (λ good ix. c14 .chase .ensures good at ix) _ _ _ (λ h. omega arith) l (c10 .put .ensures) (of-relation x n _ _ (c6 .note .ensures))
+          (c .before .before .link .ensures _ (at ∙ ap memo-size (sym (c6 .note .kept .0)))
+          (c17 .hash .ensures .0 ∙ bucket-there m _ x n refl l (c10 .put .ensures)));
+    }
+
+pub join-spec : {M : Type 1} → statement M
+join-spec =
+    tie.close
+    (tie.spec
+    (λ c κs. search needs)
+    (λ c. search needs)
+    (λ c. search needs)
+    (λ c κs. search needs)
+    (λ c. search needs)
+    (λ c. search needs)
+    returns
+    (λ c κs. search needs)
+    returns-2
+    (λ c κs. search needs)
+    (λ c κs. search needs)
+    returns-3
+    (λ c κs. search needs)
+    chase-requires
+    (λ c. search needs)
+    (λ c. search needs)
+    (λ c. search needs)
+    returns-4
+    (λ c κs. search needs)
+    (λ c. search needs)
+    (λ c. search needs)
+    returns-5
+    put-requires
+    (λ c κs. search needs)
+    link-requires
+    (λ c. search needs)
+    (λ c. search needs)
+    (λ c. search needs)
+    (λ c. search needs)
+    returns-6)

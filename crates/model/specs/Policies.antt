@@ -1,0 +1,78 @@
+-- Policies as trees: what they relate, the rules they keep, and the program that builds them; 01, "The text at the entry".
+use mathlib.Core.Path.{_≡_}
+use mathlib.Core.Logic.{_⊎_}
+use mathlib.Core.Bool.{Bool, true, false, _&&_}
+use Prim.Native.Nat.{ℕ}
+use lib.Dec.{ltb}
+use Rattle.model.specs.Store.{rel}
+use Rattle.model.specs.Programs.{Prog, bind, _>>=_}
+use Rattle.model.specs.Operations.{zero-at-depth, one-at-depth, test, assign, union, difference}
+use Rattle.model.specs.Relations.{sequence, star}
+use Rattle.model.specs.Meaning.{Rel, Passes, Assign, Filter, Compose, Star}
+
+-- `0`, `1`, `xN=b`, `xN:=b`, `!p`, `p+q`, `p;q`, `p*`
+pub data Policy : Type 0 where
+  fail : Policy
+  skip : Policy
+  tests : ℕ → Bool → Policy
+  assigns : ℕ → Bool → Policy
+  negates : Policy → Policy
+  plus : Policy → Policy → Policy
+  seq : Policy → Policy → Policy
+  stars : Policy → Policy
+
+-- NetKAT without `dup`, for packets of k fields. The operand of a `!` is a predicate, which relates a packet to itself or to nothing; so 01's
+-- "`!p` relates to themselves the packets p refuses" is what stands here: `negation-refuses` of proofs/Policies.
+unfoldable pub meaning : ℕ → Policy → Rel
+meaning k fail p q = ⊥
+meaning k skip p q = p ≡ q
+meaning k (tests v b) p q = Filter (Passes v b) p q
+meaning k (assigns v b) p q = Assign v b p q
+meaning k (negates x) p q = Filter (λ r. ¬ meaning k x r r) p q
+meaning k (plus x y) p q = meaning k x p q ⊎ meaning k y p q
+meaning k (seq x y) p q = Compose k (meaning k x) (meaning k y) p q
+meaning k (stars x) p q = Star k (meaning k x) p q
+
+-- neither `:=` nor `*`
+unfoldable pub predicate? : Policy → Bool
+predicate? fail = true
+predicate? skip = true
+predicate? (tests v b) = true
+predicate? (assigns v b) = false
+predicate? (negates x) = predicate? x
+predicate? (plus x y) = predicate? x && predicate? y
+predicate? (seq x y) = predicate? x && predicate? y
+predicate? (stars x) = false
+
+-- 01: "Its operand may contain neither `:=` nor `*`"
+unfoldable pub negates-predicates? : Policy → Bool
+negates-predicates? fail = true
+negates-predicates? skip = true
+negates-predicates? (tests v b) = true
+negates-predicates? (assigns v b) = true
+negates-predicates? (negates x) = predicate? x && negates-predicates? x
+negates-predicates? (plus x y) = negates-predicates? x && negates-predicates? y
+negates-predicates? (seq x y) = negates-predicates? x && negates-predicates? y
+negates-predicates? (stars x) = negates-predicates? x
+
+-- 01: "names only fields below k"
+unfoldable pub fields-below? : ℕ → Policy → Bool
+fields-below? k fail = true
+fields-below? k skip = true
+fields-below? k (tests v b) = ltb v k
+fields-below? k (assigns v b) = ltb v k
+fields-below? k (negates x) = fields-below? k x
+fields-below? k (plus x y) = fields-below? k x && fields-below? k y
+fields-below? k (seq x y) = fields-below? k x && fields-below? k y
+fields-below? k (stars x) = fields-below? k x
+
+-- operands first, left before right; `!p`: "p first, then one, then the difference"
+unfoldable pub policy-program : ℕ → Policy → Prog
+policy-program k fail = zero-at-depth rel k
+policy-program k skip = one-at-depth rel k
+policy-program k (tests v b) = test rel k v b
+policy-program k (assigns v b) = assign k v b
+policy-program k (negates x) = policy-program k x >>= λ p. one-at-depth rel k >>= λ one. difference rel k one p
+policy-program k (plus x y) = policy-program k x >>= λ p. policy-program k y >>= λ q. union rel k p q
+policy-program k (seq x y) = policy-program k x >>= λ p. policy-program k y >>= λ q. sequence k p q
+policy-program k (stars x) = policy-program k x >>= λ p. star k p

@@ -1,0 +1,5 @@
+pub mod Memory
+pub mod Valid
+pub mod StoreChecking
+pub mod Commit
+pub mod Reindexing
