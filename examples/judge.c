@@ -9,29 +9,49 @@
 
 #define RELATIONS_LEN PACKET_STORE_RELATIONS_LEN(PLACES)
 #define SETS_LEN PACKET_STORE_SETS_LEN(PLACES)
-#define WORK_LEN 32768
+#define WORK_LEN PACKET_STORE_WORK_LEN
 
 static uint32_t relations[RELATIONS_LEN], sets[SETS_LEN], work[WORK_LEN];
+
+/* Begins the store; a refusal ends the program. */
+static void begin(uint32_t k) {
+    uint32_t refusal = PACKET_STORE_REFUSAL(packet_store_new(relations, RELATIONS_LEN, sets, SETS_LEN, work, WORK_LEN, k));
+    if (refusal != 0) {
+        printf("refused: %s\n", packet_store_refusal_text(refusal));
+        exit(2);
+    }
+}
+
+/* Whether a policy's answer with this refusal has an offset in the text. */
+static int has_offset(uint32_t refusal) {
+    return refusal == PACKET_STORE_OUT_OF_RANGE || refusal == PACKET_STORE_NOT_POLICY ||
+           refusal == PACKET_STORE_NOT_PREDICATE || refusal == PACKET_STORE_TOO_DEEP;
+}
 
 /* The handle of a table; a refusal ends the program. */
 static uint32_t judge(const char *table) {
     uint64_t answer = packet_store_policy(relations, RELATIONS_LEN, sets, SETS_LEN, work, WORK_LEN,
                                           (const uint8_t *)table, strlen(table));
-    if (PACKET_STORE_REFUSAL(answer) != 0) {
-        printf("refused: %u, offset %u\n", PACKET_STORE_REFUSAL(answer), PACKET_STORE_VALUE(answer));
-        exit(2);
+    uint32_t refusal = PACKET_STORE_REFUSAL(answer), value = PACKET_STORE_VALUE(answer);
+    if (refusal == 0) {
+        return value;
     }
-    return PACKET_STORE_VALUE(answer);
+    printf("refused: %s", packet_store_refusal_text(refusal));
+    if (has_offset(refusal)) {
+        printf(" at %u", (unsigned)value);
+    }
+    puts("");
+    exit(2);
 }
 
 int main(int count, char **words) {
     char *end = NULL;
     unsigned long k = count == 4 ? strtoul(words[1], &end, 10) : 0;
-    if (end == NULL || end == words[1] || *end != 0 || k > 32) {
-        fprintf(stderr, "usage: judge K TABLE TABLE, K from 0 to 32\n");
+    if (end == NULL || end == words[1] || *end != 0 || k > UINT32_MAX) {
+        fprintf(stderr, "usage: judge K TABLE TABLE\n");
         return 2;
     }
-    packet_store_new(relations, RELATIONS_LEN, sets, SETS_LEN, work, WORK_LEN, (uint32_t)k);
+    begin((uint32_t)k);
     uint32_t one = judge(words[2]);
     uint32_t other = judge(words[3]);
     puts(one == other ? "equal" : "different");

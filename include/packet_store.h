@@ -3,36 +3,39 @@
  *
  * A packet of k fields is a number below 2^k; field 0 is its most significant bit, and k is at most 32.
  * A handle names a set or a relation of a level, from 0 to k: it concerns packets of as many fields.
- * Two sets of one level have the same packets exactly when their handles are equal, and two relations of one level
- * relate the same pairs exactly when theirs are.
+ * In one store, from one packet_store_new, two sets of one level have the same packets exactly when their handles are
+ * equal, and two relations of one level relate the same pairs exactly when theirs are. Handles of two stores say nothing
+ * of each other.
  *
  * MEMORY. Every function is lent three runs of uint32_t, each a pointer and a length in numbers:
  *
  *   relations  k, the count n of relation nodes, then four numbers for each place: x00, x01, x10, x11
  *   sets       the count m of set nodes, then two numbers for each place: x0, x1
- *   work       working memory of any length; with more of it a call is faster, and no answer depends on it
+ *   work       working memory of any length, on which no answer depends; without it, or with little, a call may take
+ *              time exponential in the level, and PACKET_STORE_WORK_LEN numbers are recommended for any store
  *
  * Places are the whole nodes that fit, at most 4,096 of each kind: PACKET_STORE_RELATIONS_LEN(4096) numbers of relations
  * and PACKET_STORE_SETS_LEN(4096) of sets are never exceeded in use. Numbers beyond the last place are never touched.
- * A run of length 0 may have a null pointer. Runs that a function writes must not overlap any other run,
- * and nothing else may use them during the call. The functions keep nothing between calls, allocate
- * nothing and may be called from several threads on different memories.
+ * A run of length 0 may have a null pointer, and so may a text of length 0. What a function writes, runs or children,
+ * must not overlap anything else that it is lent, and nothing else may use it during the call. The functions keep nothing
+ * between calls, allocate nothing and may be called from several threads on different memories.
  *
  * Set handles 0 and 1 are the empty and the full set of level 0; the set node at place j, from 0, has handle
  * 2 * (j + 1), and the odd handle after it is its complement. Relation handles 0 and 1 are the empty and the full
  * relation of level 0; the relation node at place i has handle i + 2.
  *
  * ANSWER. Each function returns one number: in its high half the refusal's number, 0 where the call was
- * accepted; in its low half the handle, 1 or 0 for yes or no, or 0 where the call was refused. A policy that is
- * refused with 5, 7, 8 or 9 has an offset in its text there.
+ * accepted; in its low half the handle, 1 or 0 for yes or no, the first child, or 0 where the call was refused. A policy
+ * that is refused with 5, 7, 8 or 9 has an offset in its text there.
  *
- *   1 not a store     2 handle not held     3 levels differ     4 no children     5 out of range
- *   6 places used up  7 not a policy        8 ! over a non-predicate              9 nested too deep
- *  10 text too long
+ *   1 not a store           2 handle not held     3 levels differ     4 no children there
+ *   5 number out of range   6 places used up      7 not a policy      8 `!` over a non-predicate
+ *   9 nested too deep      10 text too long
  *
  * A refused call changes neither relations nor sets. Every call, refused or not, leaves work all zeros.
  * Where several refusals apply, the first in the function's list is returned. Refusal 1 covers both memories:
- * memory holds a store where packet_store_new, or any call after it, left it so.
+ * memory holds a store where packet_store_new, or any call after it, left it so. Memory of zeros holds one too, of no
+ * fields: calls after a packet_store_new whose refusal was overlooked may be accepted, so look at each answer's refusal.
  */
 #ifndef PACKET_STORE_H
 #define PACKET_STORE_H
@@ -55,6 +58,9 @@ extern "C" {
 #define PACKET_STORE_RELATIONS_LEN(places) (PACKET_STORE_RELATION_HEAD + 4 * (places))
 #define PACKET_STORE_SETS_LEN(places) (PACKET_STORE_SET_HEAD + 2 * (places))
 
+/* How many numbers of working memory are recommended, for any store: 256 KiB. */
+#define PACKET_STORE_WORK_LEN 65536
+
 /* The numbers of the refusals. */
 #define PACKET_STORE_NOT_STORE 1
 #define PACKET_STORE_NOT_HELD 2
@@ -66,6 +72,23 @@ extern "C" {
 #define PACKET_STORE_NOT_PREDICATE 8
 #define PACKET_STORE_TOO_DEEP 9
 #define PACKET_STORE_TOO_LONG 10
+
+/* A refusal's number in words. */
+static inline const char *packet_store_refusal_text(uint32_t refusal) {
+    switch (refusal) {
+    case PACKET_STORE_NOT_STORE: return "not a store";
+    case PACKET_STORE_NOT_HELD: return "handle not held";
+    case PACKET_STORE_LEVELS_DIFFER: return "levels differ";
+    case PACKET_STORE_NO_CHILDREN: return "no children there";
+    case PACKET_STORE_OUT_OF_RANGE: return "number out of range";
+    case PACKET_STORE_USED_UP: return "places used up";
+    case PACKET_STORE_NOT_POLICY: return "not a policy";
+    case PACKET_STORE_NOT_PREDICATE: return "`!` over a non-predicate";
+    case PACKET_STORE_TOO_DEEP: return "nested too deep";
+    case PACKET_STORE_TOO_LONG: return "text too long";
+    default: return "no refusal";
+    }
+}
 
 /* The two halves of an answer. */
 #define PACKET_STORE_REFUSAL(answer) ((uint32_t)((answer) >> 32))
@@ -129,7 +152,8 @@ uint64_t packet_store_set_ifelse(const uint32_t *relations, size_t relations_len
 
 /*
  * Writes the children x0 and x1 of a where the call is accepted, and returns x0; leaves children as they are where it is
- * refused. Refuses: 1; 2 if a is not held; 4 if a is 0 or 1. children points to two numbers and is never null.
+ * refused. Refuses: 1; 2 if a is not held; 4 if a is 0 or 1. children points to two numbers, which no run may overlap,
+ * and is never null.
  */
 uint64_t packet_store_set_get(const uint32_t *relations, size_t relations_len, const uint32_t *sets, size_t sets_len,
                               uint32_t *work, size_t work_len, uint32_t a, uint32_t children[2]);
@@ -222,7 +246,8 @@ uint64_t packet_store_relation_backward(uint32_t *relations, size_t relations_le
 
 /*
  * Writes the children x00, x01, x10 and x11 of a where the call is accepted, and returns x00; leaves children as they are
- * where it is refused. Refuses: 1; 2 if a is not held; 4 if a is 0 or 1. children points to four numbers and is never null.
+ * where it is refused. Refuses: 1; 2 if a is not held; 4 if a is 0 or 1. children points to four numbers, which no run may
+ * overlap, and is never null.
  */
 uint64_t packet_store_relation_get(const uint32_t *relations, size_t relations_len, const uint32_t *sets, size_t sets_len,
                                    uint32_t *work, size_t work_len, uint32_t a, uint32_t children[4]);
@@ -283,8 +308,9 @@ uint64_t packet_store_relation_has_path(const uint32_t *relations, size_t relati
 /* POLICIES */
 
 /*
- * The relation of level k that a policy text relates; it may add relation nodes. Two texts relate the same pairs
- * exactly when they have one handle. The text, a pointer and a length in bytes, has at most 4,096 bytes and no spaces:
+ * The relation of level k that a policy text relates; it may add relation nodes. Two texts that are accepted in one store,
+ * from one packet_store_new, relate the same pairs exactly when they have one handle. The text, a pointer and a length in
+ * bytes, has at most 4,096 bytes and no spaces; a text of no bytes may have a null pointer:
  *
  *   sum      products joined by +           union
  *   product  starred items joined by ;      one after the other

@@ -13,7 +13,9 @@ fn main() {
     let archive = folder.join("libpacket_store.a");
     if !archive.is_file() {
         eprintln!("{} is not there.", archive.display());
-        eprintln!("Run `./make-library` in the top folder, or name its folder by FIMGRODA_STATICLIB.");
+        eprintln!(
+            "Run `./make-library` in the top folder, or name its folder by FIMGRODA_STATICLIB."
+        );
         std::process::exit(1);
     }
     println!("cargo:rerun-if-changed={}", archive.display());

@@ -1,4 +1,4 @@
-//! Where the numbers of the two memories stand: a head first, then four numbers or two for each place.
+//! How long the memories are and where their numbers stand: a head first, then four numbers or two for each place.
 
 /// How many numbers `relations` has before its nodes.
 pub const RELATION_HEAD: usize = 2;
@@ -11,6 +11,9 @@ pub const RELATION_COUNT: usize = 1;
 pub const SET_HEAD: usize = 1;
 /// The place of its node count.
 pub const SET_COUNT: usize = 0;
+
+/// The recommended working memory, for any store: 256 KiB.
+pub const WORK_LEN: usize = 65_536;
 
 /// How many numbers `relations` needs for this many places; the next node begins there.
 pub const fn relations_len(places: usize) -> usize {

@@ -1,4 +1,4 @@
-//! Slices as the pointer and the length that C takes.
+//! Slices as the pointer and the length that C takes, and a call of the library on them.
 
 /// A slice lent for a call.
 pub(crate) trait Lend {
@@ -20,31 +20,42 @@ impl Lend for &mut [u32] {
     }
 }
 
-/// Calls a function of the library on the three memories and its own arguments; the answer is packed.
+/// Declares the library's function of this name and calls it on the three memories and its own arguments; the answer is packed.
+/// An argument has its name, its type in C and its value.
 macro_rules! ask {
-    ($function:ident, $relations:ident, $sets:ident, $work:ident $(, $argument:expr)*) => {{
+    ($name:ident(
+        $relations:ident: $relations_type:ty,
+        $sets:ident: $sets_type:ty,
+        $work:ident
+        $(, $x:ident: $type:ty = $value:expr)*
+    )) => {{
+        extern "C" {
+            #[link_name = concat!("packet_store_", stringify!($name))]
+            fn exported(
+                relations: <$relations_type as $crate::lend::Lend>::Pointer,
+                relations_len: usize,
+                sets: <$sets_type as $crate::lend::Lend>::Pointer,
+                sets_len: usize,
+                work: *mut u32,
+                work_len: usize
+                $(, $x: $type)*
+            ) -> u64;
+        }
         let (relations_len, sets_len, work_len) = ($relations.len(), $sets.len(), $work.len());
         // SAFETY: each pointer comes from a slice of the length beside it, and slices that are
         // written are borrowed mutably, so none overlaps another. The function writes only to them.
         unsafe {
-            $crate::c::$function(
+            exported(
                 $crate::lend::Lend::pointer($relations),
                 relations_len,
                 $crate::lend::Lend::pointer($sets),
                 sets_len,
-                $crate::lend::Lend::pointer($work),
+                $work.as_mut_ptr(),
                 work_len
-                $(, $argument)*
+                $(, $value)*
             )
         }
     }};
 }
 
-/// The same, with the answer's value or its refusal.
-macro_rules! call {
-    ($($argument:tt)*) => {
-        $crate::refusal::unpack($crate::lend::ask!($($argument)*))
-    };
-}
-
-pub(crate) use {ask, call};
+pub(crate) use ask;

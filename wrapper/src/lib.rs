@@ -3,15 +3,16 @@
 //!
 //! Every function is lent `relations`, `sets` and `work`, slices of `u32` of any length. The first two hold
 //! the store, each node in a place; document 01 and include/packet_store.h give their layout. `work` is
-//! working memory: with more of it a call is faster, and no answer depends on it.
+//! working memory, and no answer depends on it; without it a call may take time exponential in the level,
+//! and [`WORK_LEN`] numbers are recommended for any store.
 //!
 //! A refused call changes neither `relations` nor `sets`; every call leaves `work` all zeros. Where several
 //! refusals apply, the first in the function's list is given.
 //!
 //! ```
-//! use packet_store::{relations_len, sets_len};
+//! use packet_store::{relations_len, sets_len, WORK_LEN};
 //! let (mut relations, mut sets) = ([0; relations_len(16)], [0; sets_len(16)]);
-//! let mut work = [0; 4096];
+//! let mut work = vec![0; WORK_LEN];
 //! packet_store::new(&mut relations, &mut sets, &mut work, 2)?;
 //! let a = packet_store::set_test(&relations, &mut sets, &mut work, 0, 1)?;
 //! let b = packet_store::set_complement(&relations, &sets, &mut work, a)?;
@@ -20,28 +21,14 @@
 //! # Ok::<(), packet_store::Refusal>(())
 //! ```
 
-mod c;
-mod creation;
-mod filter_calls;
+mod calls;
 mod head;
-mod image_calls;
 mod lend;
-mod path_reads;
 mod policy_call;
 mod refusal;
-mod relation_calls;
-mod relation_reads;
-mod set_calls;
-mod set_reads;
+mod table;
 
-pub use creation::new;
-pub use filter_calls::*;
+pub use calls::*;
 pub use head::*;
-pub use image_calls::*;
-pub use path_reads::*;
 pub use policy_call::policy;
 pub use refusal::{Fault, PolicyRefusal, Refusal};
-pub use relation_calls::*;
-pub use relation_reads::*;
-pub use set_calls::*;
-pub use set_reads::*;

@@ -6,15 +6,17 @@ use crate::PolicyRefusal;
 
 /// The relation of level k that a policy text relates.
 ///
+/// Two texts that one store accepted, since one [`new`](crate::new), have one handle exactly when they relate the same pairs.
+///
 /// Refuses with `NotStore`; `TooLong` if `text` has more than 4,096 bytes; `NotPolicy` at the first byte that
 /// cannot stand there, or the length where the text ends too soon, or `TooDeep` at the first `(` or `!` inside
 /// 32 others, whichever comes first; `NoField` at the first `x` whose field is k or more; `NotPredicate` at the
 /// first `!` over `:=` or `*`; `UsedUp`.
 ///
 /// ```
-/// use packet_store::{new, policy, relations_len, sets_len, Fault, PolicyRefusal};
+/// use packet_store::{new, policy, relations_len, sets_len, Fault, PolicyRefusal, WORK_LEN};
 /// let (relations, sets) = (&mut [0; relations_len(64)], &mut [0; sets_len(4)]);
-/// let mut work = [0; 4096];
+/// let mut work = vec![0; WORK_LEN];
 /// new(relations, sets, &mut work, 1)?;
 /// let mut judge = |text| policy(relations, sets, &mut work, text);
 /// assert_eq!(judge(b"x0=0+x0=1"), judge(b"1"));
@@ -28,5 +30,7 @@ pub fn policy(
     text: &[u8],
 ) -> Result<u32, PolicyRefusal> {
     let (bytes, len) = (text.as_ptr(), text.len());
-    unpack_policy(ask!(packet_store_policy, relations, sets, work, bytes, len))
+    unpack_policy(ask!(
+        policy(relations: &mut [u32], sets: &[u32], work, text: *const u8 = bytes, text_len: usize = len)
+    ))
 }

@@ -3,6 +3,25 @@
 use std::error::Error;
 use std::fmt;
 
+/// The refusals in words, from 1 on; docs/CALLS.md and include/packet_store.h have the same.
+const TEXTS: [&str; 10] = [
+    "not a store",
+    "handle not held",
+    "levels differ",
+    "no children there",
+    "number out of range",
+    "places used up",
+    "not a policy",
+    "`!` over a non-predicate",
+    "nested too deep",
+    "text too long",
+];
+
+/// The words of a refusal's number.
+fn text(number: u32) -> &'static str {
+    TEXTS[number as usize - 1]
+}
+
 /// The store's own refusals.
 #[derive(Clone, Copy, Debug, PartialEq, Eq, Hash)]
 pub enum Refusal {
@@ -43,15 +62,7 @@ impl Refusal {
 /// The refusal in words.
 impl fmt::Display for Refusal {
     fn fmt(&self, f: &mut fmt::Formatter<'_>) -> fmt::Result {
-        f.write_str(match self {
-            Refusal::NotStore => "not a store",
-            Refusal::NotHeld => "handle not held",
-            Refusal::LevelsDiffer => "levels differ",
-            Refusal::NoChildren => "no children there",
-            Refusal::OutOfRange => "number out of range",
-            Refusal::UsedUp => "places used up",
-            Refusal::TooLong => "text too long",
-        })
+        f.write_str(text(self.number()))
     }
 }
 
@@ -74,17 +85,17 @@ impl Fault {
     /// All faults, in the order of their numbers.
     pub const ALL: [Fault; 4] =
         [Fault::NoField, Fault::NotPolicy, Fault::NotPredicate, Fault::TooDeep];
+
+    /// The number of the refusal.
+    pub fn number(self) -> u32 {
+        self as u32
+    }
 }
 
 /// The fault in words.
 impl fmt::Display for Fault {
     fn fmt(&self, f: &mut fmt::Formatter<'_>) -> fmt::Result {
-        f.write_str(match self {
-            Fault::NoField => "no such field",
-            Fault::NotPolicy => "not a policy",
-            Fault::NotPredicate => "`!` over a non-predicate",
-            Fault::TooDeep => "nested too deep",
-        })
+        f.write_str(text(self.number()))
     }
 }
 
@@ -101,7 +112,7 @@ impl PolicyRefusal {
     /// The refusal's number.
     pub fn number(self) -> u32 {
         match self {
-            PolicyRefusal::At(fault, _) => fault as u32,
+            PolicyRefusal::At(fault, _) => fault.number(),
             PolicyRefusal::Store(refusal) => refusal.number(),
         }
     }
@@ -144,7 +155,7 @@ pub(crate) fn unpack(answer: u64) -> Result<u32, Refusal> {
 /// The handle of a policy's answer, or its refusal: 5 is a fault there.
 pub(crate) fn unpack_policy(answer: u64) -> Result<u32, PolicyRefusal> {
     let (number, value) = halves(answer);
-    match Fault::ALL.into_iter().find(|&fault| fault as u32 == number) {
+    match Fault::ALL.into_iter().find(|fault| fault.number() == number) {
         Some(fault) => Err(PolicyRefusal::At(fault, value)),
         None => unpack(answer).map_err(PolicyRefusal::Store),
     }

@@ -148,7 +148,7 @@ fn no_working_memory_is_needed() {
     let p = bench.add_set(|r, s, w| set_test(r, s, w, 0, 0)).unwrap();
     let q = bench.add_set(|r, s, w| relation_push(r, s, w, p, a)).unwrap();
     let b = bench.add_relation(|r, s, w| relation_ifwd(r, s, w, q)).unwrap();
-    bench.work.resize(16384, 7);
+    bench.work.resize(WORK_LEN, 7);
     assert_eq!(bench.add_set(|r, s, w| relation_push(r, s, w, p, a)), Ok(q));
     assert_eq!(bench.add_relation(|r, s, w| relation_ifwd(r, s, w, q)), Ok(b));
     assert_eq!(bench.read(|r, s, w| relation_has_path(r, s, w, p, a, q)), Ok(true));

@@ -106,7 +106,7 @@ fn no_working_memory_is_needed() {
     let b = bench.add_relation(|r, s, w| relation_test(r, s, w, 0, 0)).unwrap();
     let c = bench.add_relation(|r, s, w| relation_sequence(r, s, w, a, b)).unwrap();
     let d = bench.add_relation(|r, s, w| relation_star(r, s, w, c)).unwrap();
-    bench.work.resize(16384, 7);
+    bench.work.resize(WORK_LEN, 7);
     assert_eq!(bench.add_relation(|r, s, w| relation_sequence(r, s, w, a, b)), Ok(c));
     assert_eq!(bench.add_relation(|r, s, w| relation_star(r, s, w, c)), Ok(d));
 }

@@ -110,6 +110,6 @@ fn no_working_memory_is_needed() {
     let a = bench.add_set(|r, s, w| set_test(r, s, w, 5, 1)).unwrap();
     let b = bench.add_set(|r, s, w| set_test(r, s, w, 0, 0)).unwrap();
     let c = bench.add_set(|r, s, w| set_xor(r, s, w, a, b)).unwrap();
-    bench.work.resize(16384, 7);
+    bench.work.resize(WORK_LEN, 7);
     assert_eq!(bench.add_set(|r, s, w| set_xor(r, s, w, a, b)), Ok(c));
 }

@@ -113,3 +113,11 @@ fn new_refuses_in_order() {
     assert_eq!(empty(relations_len(3) - 1, sets_len(1), 1), Err(UsedUp));
     assert_eq!(empty(relations_len(3), sets_len(1) - 1, 1), Err(UsedUp));
 }
+
+#[test]
+fn memory_of_zeros_is_a_store_of_no_fields() {
+    let mut bench = Bench::bare(0, 4, 4);
+    // A refused `new` leaves it so, and the call after it is accepted.
+    assert_eq!(bench.open(33), Err(OutOfRange));
+    assert_eq!(bench.judge("1"), Ok(1));
+}

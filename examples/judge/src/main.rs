@@ -1,15 +1,15 @@
 //! Judges two relay tables, policy texts of packets with k fields: do they relate the same packets?
 
-use packet_store::{new, policy, relations_len, sets_len, PolicyRefusal};
+use packet_store::{new, policy, relations_len, sets_len, PolicyRefusal, WORK_LEN};
 use std::process::ExitCode;
 
 const PLACES: usize = 4096;
 
 fn main() -> ExitCode {
     let words: Vec<String> = std::env::args().skip(1).collect();
-    let numbered = |k: &String| k.parse().ok().filter(|&k: &u32| k <= 32);
+    let numbered = |k: &String| k.parse().ok();
     let (Some(k), [_, one, other]) = (words.first().and_then(numbered), &words[..]) else {
-        eprintln!("usage: judge K TABLE TABLE, K from 0 to 32");
+        eprintln!("usage: judge K TABLE TABLE");
         return ExitCode::from(2);
     };
     match equal(k, one, other) {
@@ -28,10 +28,10 @@ fn main() -> ExitCode {
     }
 }
 
-/// Whether two tables have one handle.
+/// Whether two tables have one handle; a refused `new` is a refusal too.
 fn equal(k: u32, one: &str, other: &str) -> Result<bool, PolicyRefusal> {
     let (mut relations, mut sets) = (vec![0; relations_len(PLACES)], vec![0; sets_len(PLACES)]);
-    let mut work = vec![0; 32768];
+    let mut work = vec![0; WORK_LEN];
     new(&mut relations, &mut sets, &mut work, k)?;
     let mut judge = |table: &str| policy(&mut relations, &sets, &mut work, table.as_bytes());
     Ok(judge(one)? == judge(other)?)
