@@ -4,11 +4,13 @@ use mathlib.Core.List.{List, [], _∷_, _++_, append-assoc}
 use Prim.Native.Nat.{ℕ, _+_, _-_, _*_, _<_, _≤_}
 use native.Mathlib.Omega.{arith}
 use lib.ListN.{length, take, drop, replicate, drop-of-length-le}
-use lib.Seq.{take-nil, length-take-le}
-use borrow.Author.Tests.{le-leb, lt-leb}
+use lib.Seq.{take-all, take-nil, length-take-le}
+use lib.Dec.{leb}
+use borrow.Author.Tests.{leb-true, leb-false, le-leb, lt-leb}
 use Rattle.bytes.specs.Bytes.{indexOf, slice}
 use Rattle.io.specs.Counts.{Counts}
 use Rattle.model.specs.Store.{set, rel, arity, pick}
+use Rattle.model.proofs.Bools.{by-test}
 use Rattle.store_check.specs.Memory.{Memories, memories, head}
 use Rattle.policies.specs.Outcome.{policy-step}
 use Rattle.policies.specs.declared.PolicyAnswer.{PolicyAnswer}
@@ -80,9 +82,22 @@ pub listing-long : (x : List ℕ) → 16384 < length x → too-long ≡ listing 
 unfolding listing
 listing-long x long = ap (λ b. pick b (of-lines (lines x)) too-long) (sym (lt-leb (length x) 16384 long))
 
+-- one byte more than is listed tells whether a text is too long
+listing-read : (t : List ℕ) → listing (take 16385 t) ≡ listing t
+listing-read t =
+    by-test (λ _. listing (take 16385 t) ≡ listing t) (leb (length t) 16384)
+    (λ e. ap listing (take-all 16385 t (omega (arith, leb-true (length t) 16384 e))))
+    (λ e.
+    let long : 16384 < length t = leb-false (length t) 16384 e in
+    sym (listing-long (take 16385 t) (rw (length-take-le 16385 t long) (omega arith))) ∙ listing-long t long)
+
 -- what `list` says of bytes that it has written
-pub counted : (r : ℕ) (o y x : List ℕ) → r ≤ length o → take r o ≡ y → y ≡ listing x → Counts r o × (take r o ≡ listing x)
-counted r o y x within text is = ((within, sym (length-take-le r o within)), text ∙ is)
+pub counted : (r n : ℕ) (o y b : List ℕ) → length b ≡ 16385 → r ≤ length o → take r o ≡ y → y ≡ listing (take n b)
+    → Counts r o × ((t : List ℕ) → take (length b) t ≡ take n b → take r o ≡ listing t)
+counted r n o y b all within text is = (
+  (within, sym (length-take-le r o within)),
+  λ t e. text ∙ (is ∙ (ap listing (sym e) ∙ (ap (λ (m : ℕ). listing (take m t)) all ∙ listing-read t))),
+)
 
 -- a new store in cleared memories
 pub begun : (k : ℕ) (a : Answer) (r s r₀ s₀ r′ s′ : List ℕ) → r ≡ replicate (length r₀) 0 → s ≡ replicate (length s₀) 0

@@ -1,6 +1,8 @@
 // What the lister writes for the bytes that it reads: a proved function from input to output.
 ghost use mathlib.Core.Path.{_≡_};
-ghost use lib.ListN.{take};
+ghost use mathlib.Core.List.{List};
+ghost use Prim.Native.Nat.{ℕ, _≤_};
+ghost use lib.ListN.{length, take};
 ghost use Rattle.io.specs.Counts.{Counts};
 ghost use Rattle.listing.specs.Listing.{listing};
 use crate::fields::Width;
@@ -10,42 +12,62 @@ mod fields;
 mod lines;
 mod writing;
 
-// The numbers of relation memory with 2,048 places.
-pub const RELATIONS: usize = RELATION_HEAD + 4 * 2048;
+// The places of each kind that are lent.
+const PLACES: usize = 2048;
 
-// The numbers of set memory with as many.
-pub const SETS: usize = SET_HEAD + 2 * 2048;
+// The numbers of relation memory with so many.
+pub const RELATIONS: usize = RELATION_HEAD + 4 * PLACES;
 
-// Writes the listing of the input to the start of `out`, on memories of 2,048 places of each kind, and answers its length.
+// The numbers of set memory with so many.
+pub const SETS: usize = SET_HEAD + 2 * PLACES;
+
+// The numbers of working memory that are lent.
+const WORK: usize = 32768;
+
+// The most bytes that are listed.
+const MOST: usize = 16384;
+
+// The bytes that are read: one more, so that a longer input is seen to be too long.
+pub const INPUT: usize = MOST + 1;
+
+// The bytes of the longest listing, 64 a line at most: a policy has a byte of the input at least, k and the counts have a line each.
+pub const OUTPUT: usize = 64 * MOST + 128;
+
+// Writes the listing of a text to the start of `out`, on memories of 2,048 places of each kind, and answers its length.
+// The first n bytes of `input` are those of the text, of which no more are read than `input` holds.
 pub fn list(
-    input: &[u8],
+    input: &[u8; INPUT],
+    n: usize,
     relations: &mut [u32; RELATIONS],
     sets: &mut [u32; SETS],
     work: &mut [u32],
-    out: &mut [u8; 1048704],
+    out: &mut [u8; OUTPUT],
 ) -> usize
+    requires { ⌜ n ≤ length (now input) ⌝ }
     ensures { λ r. ⌜ Counts r (now (out .exit)) ⌝ }
-    ensures { λ r. ⌜ take r (now (out .exit)) ≡ listing (now (input .entry)) ⌝ }
+    ensures { λ r. ⌜ ((t : List ℕ) → take (length (now (input .entry))) t ≡ take n (now (input .entry)) → take r (now (out .exit)) ≡ listing t) ⌝ }
 {
-    if input.len() > 16384 {
+    let all: &[u8] = input;
+    if n > MOST {
         return crate::writing::put(out, 0, b"too long\n");
     }
-    let end = bytes::scan::find(input, 0, input.len(), b'\n');
-    let width = crate::fields::read(&input[..end]);
+    let text = &all[..n];
+    let end = bytes::scan::find(text, 0, text.len(), b'\n');
+    let width = crate::fields::read(&text[..end]);
     match width {
         Width::Bad => crate::writing::put(out, 0, b"bad k\n"),
-        Width::Is(k) => crate::lines::write(input, end + 1, k, relations, sets, work, out),
+        Width::Is(k) => crate::lines::write(text, end + 1, k, relations, sets, work, out),
     }
 }
 
 // Reads all of a file, and writes its listing to standard output.
 pub fn run(file: i32) {
-    let mut input = [0u8; 16385];
+    let mut input = [0u8; INPUT];
     let n = io::read_full(file, &mut input);
     let mut relations = [0u32; RELATIONS];
     let mut sets = [0u32; SETS];
-    let mut work = [0u32; 65536];
-    let mut out = [0u8; 1048704];
-    let r = list(&input[..n], &mut relations, &mut sets, &mut work, &mut out);
+    let mut work = [0u32; WORK];
+    let mut out = [0u8; OUTPUT];
+    let r = list(&input, n, &mut relations, &mut sets, &mut work, &mut out);
     io::write_all(libc::STDOUT_FILENO, &out[..r]);
 }
