@@ -18,7 +18,7 @@ use Rattle.policy_text.specs.Answers.{tree}
 use Rattle.policy_text.specs.Reading.{reading}
 use Rattle.policy_text.specs.declared.Reading.{Reading}
 use Rattle.policy_text.proofs.XLaws.{x-lawful, x-bounds}
-use Rattle.policy_text.proofs.Decides.{keeps-rules, tree-is}
+use Rattle.policy_text.proofs.Says.{keeps-rules, tree-is}
 use Rattle.theorems.specs.AllCalls.{WithinRules, policy-of}
 use Rattle.call_rules.proofs.Declining.{program-in, not-runs}
 use Rattle.policies.specs.Outcome.{refused, built-handle, of-reading, short?, text-verdict}

@@ -21,7 +21,7 @@ use Rattle.call_rules.proofs.Encoding.{decode-encode}
 use Rattle.policy_text.specs.Grammar.{Sum}
 use Rattle.policy_text.specs.XForms.{x-forms}
 use Rattle.policy_text.proofs.XLaws.{x-lawful}
-use Rattle.policy_text.proofs.Decides.{tree-is}
+use Rattle.policy_text.proofs.Says.{tree-is}
 use Rattle.theorems.specs.AllCalls.{policy-of, text-relates}
 use Rattle.theorems.specs.OneText.{TextRight}
 use Rattle.policies.specs.Outcome.{refused, text-verdict, policy-step}
