@@ -11,7 +11,7 @@ use lib.ListN.{length, getD, set, take, drop, length-set, drop-of-length-le}
 use lib.Seq.{drop-cons, getD-set-same, getD-set-other, take-set-le, drop-set-lt}
 use borrow.Author.Tests.{eq-eqb, ne-eqb}
 use Rattle.memory.specs.Rows.{row}
-use Rattle.memory.specs.Working.{memo-size, bucket, last-in, Chained, Indexed}
+use Rattle.memory.specs.Working.{memo-size, bucket, last-in, Chained, Indexed, index-size}
 use Rattle.memory.specs.Finding.{Finds, Entered}
 use Rattle.memory.proofs.Rows.{row-agree}
 
@@ -164,7 +164,7 @@ module _ (node : ℕ → List ℕ) (n : ℕ) (x : List ℕ) where
         → Trail node w at n x v → Trail node w at n x next
     trail-next v next p l s en t = record { along = λ e h. along-next v next p (t .along e h) s (link-is v next p l en e h) }
 
-    module _ (room : at + 8192 ≤ length w) (v : ℕ) where
+    module _ (room : at + index-size ≤ length w) (v : ℕ) where
       -- a value past the nodes, and a link that does not lead down, stand in no right index
       pub trail-past : n < v → Trail node w at n x v → LooksUp n
       trail-past l t good e ix = finds-none good (λ g. absurd (let a = t .along e (ix g (omega arith)) in omega (arith, a .low)))
@@ -191,7 +191,7 @@ module _ (node : ℕ → List ℕ) (w : List ℕ) (n at b : ℕ) where
   entered-length : length entered ≡ length w
   entered-length = simp length-set
 
-  chained-enter : at ≡ memo-size (length w) → b ≡ bucket (node n) → b < 4096 → n < 4096 → at + 8192 ≤ length w → Chained node w n
+  chained-enter : at ≡ memo-size (length w) → b ≡ bucket (node n) → b < 4096 → n < 4096 → at + index-size ≤ length w → Chained node w n
       → Chained node entered (n + 1)
   chained-enter ea eb lb ln room h =
       record {
@@ -221,7 +221,7 @@ module _ (node : ℕ → List ℕ) (w : List ℕ) (n at b : ℕ) where
           ∙ getD-set-other w (at + 4096 + n) (at + 4096 + i) (getD w (at + b) 0) 0 (omega arith)
           ∙ rw ea (h .links i (omega arith))
 
-  pub enter-joins : at ≡ memo-size (length w) → b ≡ bucket (node n) → b < 4096 → n < 4096 → at + 8192 ≤ length w → Entered node n w entered
+  pub enter-joins : at ≡ memo-size (length w) → b ≡ bucket (node n) → b < 4096 → n < 4096 → at + index-size ≤ length w → Entered node n w entered
   enter-joins ea eb lb ln room =
       record {
         index = λ ix l. chained-enter ea eb lb ln room (ix (omega arith));
@@ -231,7 +231,7 @@ module _ (node : ℕ → List ℕ) (w : List ℕ) (n at b : ℕ) where
             ∙ take-set-le at w (at + 4096 + n) (getD w (at + b) 0) (omega arith));
         words =
             rw (← ea)
-            (drop-set-lt (at + 8192) one (at + b) (n + 1) (omega arith)
-            ∙ drop-set-lt (at + 8192) w (at + 4096 + n) (getD w (at + b) 0) (omega arith));
+            (drop-set-lt (at + index-size) one (at + b) (n + 1) (omega arith)
+            ∙ drop-set-lt (at + index-size) w (at + 4096 + n) (getD w (at + b) 0) (omega arith));
         work-length = entered-length;
       }

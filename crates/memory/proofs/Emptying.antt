@@ -7,13 +7,13 @@ use lib.ListN.{length, getD, take, drop, replicate, List·getD-append, length-re
 use lib.Seq.{drop-drop, getD-append-add, length-take-le}
 use borrow.Rule.Slice.PartMut.{midOf, postOf, putMid, same-len-mid, take-put, drop-put, mid-len}
 use Rattle.memory.specs.Finding.{Emptied}
-use Rattle.memory.specs.Working.{memo-size, last-in}
+use Rattle.memory.specs.Working.{memo-size, last-in, index-size}
 
-pub no-index : (w : List ℕ) (p : ℕ) → p ≡ memo-size (length w) → length w - p < 8192 → Emptied w w
+pub no-index : (w : List ℕ) (p : ℕ) → p ≡ memo-size (length w) → length w - p < index-size → Emptied w w
 no-index w p e h = record { index = λ node f. absurd (let z : ⊥ = omega (arith, e) in z); memo = refl; words = refl; work-length = refl }
 
 -- z is put for the heads, from p on
-module _ (w z : List ℕ) (p : ℕ) (e : p ≡ memo-size (length w)) (h : 8192 ≤ length w - p)
+module _ (w z : List ℕ) (p : ℕ) (e : p ≡ memo-size (length w)) (h : index-size ≤ length w - p)
     (q : z ≡ replicate (length (midOf p (p + 4096 - p) w)) 0) where
   size : length (midOf p (p + 4096 - p) w) ≡ p + 4096 - p
   size = mid-len p (p + 4096) w (omega arith)
@@ -37,8 +37,8 @@ module _ (w z : List ℕ) (p : ℕ) (e : p ≡ memo-size (length w)) (h : 8192 �
       ∙ List·getD-append z rest 0 b (omega (arith, heads-long)) ∙ ap (λ (z : List ℕ). getD z b 0) q
       ∙ getD-replicate (length (midOf p (p + 4096 - p) w)) b 0 0 (omega (arith, size))
 
-  further : (m : List ℕ) → drop (p + 8192) m ≡ drop 4096 (drop (p + 4096) m)
-  further m = let s : p + 8192 ≡ p + 4096 + 4096 = omega arith in ap (λ k. drop k m) s ∙ sym (drop-drop 4096 (p + 4096) m)
+  further : (m : List ℕ) → drop (p + index-size) m ≡ drop 4096 (drop (p + 4096) m)
+  further m = let s : p + index-size ≡ p + 4096 + 4096 = omega arith in ap (λ k. drop k m) s ∙ sym (drop-drop 4096 (p + 4096) m)
 
   kept-behind : drop (p + 4096) after ≡ drop (p + 4096) w
   unfolding after
@@ -52,6 +52,6 @@ module _ (w z : List ℕ) (p : ℕ) (e : p ≡ memo-size (length w)) (h : 8192 �
       links = λ i l. absurd (let z : ⊥ = omega arith in z);
     };
     memo = subst (λ k. take k after ≡ take k w) e (take-put p (p + 4096 - p) w z (omega arith));
-    words = subst (λ k. drop (k + 8192) after ≡ drop (k + 8192) w) e (further after ∙ ap (drop 4096) kept-behind ∙ sym (further w));
+    words = subst (λ k. drop (k + index-size) after ≡ drop (k + index-size) w) e (further after ∙ ap (drop 4096) kept-behind ∙ sym (further w));
     work-length = wide-after;
   }

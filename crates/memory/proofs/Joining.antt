@@ -25,11 +25,11 @@ use Rattle.model.proofs.Settle.{agrees-kept, settled-later}
 use Rattle.model.proofs.Signs.{index-handle, with-sign-zero}
 use Rattle.model.proofs.Tests.{empty}
 use Rattle.memory.specs.declared.RunState.{RunState}
-use Rattle.memory.specs.Performing.{run-state, Ready, ends, Runs, Joins}
+use Rattle.memory.specs.Performing.{run-state, Ready, ends, Runs, Joins, JoinsAs}
 use Rattle.memory.specs.Finding.{Search, Entered}
 use Rattle.memory.specs.Noting.{Noted}
 use Rattle.memory.specs.Rows.{row, rows, places, plain}
-use Rattle.memory.specs.Working.{memo-size, links-at, words-at, Indexed, properties-in, Has, Known, Words, Entry, Remembers, Right}
+use Rattle.memory.specs.Working.{memo-size, links-at, words-at, Indexed, properties-in, Has, Known, Words, Entry, Remembers, Right, index-size}
 use Rattle.memory.proofs.Chains.{indexed-agree}
 use Rattle.memory.proofs.Known.{known-nothing}
 use Rattle.memory.proofs.Parts.{words-same, entry-same}
@@ -101,7 +101,7 @@ apart rel rel l i n a b e = (refl, omega arith)
 apart set rel l i n a b e = absurd (omega arith)
 apart rel set l i n a b e = absurd (omega arith)
 
-after-index : (K : Kind) (l n i : ℕ) → i < 8192 → memo-size l + i < words-at K l + n
+after-index : (K : Kind) (l n i : ℕ) → i < index-size → memo-size l + i < words-at K l + n
 after-index set l n i h = omega arith
 after-index rel l n i h = omega arith
 
@@ -367,3 +367,8 @@ module _ {K : Kind} {s : RunState} {m w : List ℕ} (y x : List ℕ) where
           (N K z)
           (subst (λ c. Entered (row c m′) (s .n) w₁ w₂) z E) h v;
     }
+
+-- what `fails` gives
+pub failed : {x : List ℕ} {s r : RunState} {m w : List ℕ} → r ≡ run-state false (s .n) 0
+    → ((K : Kind) (y : List ℕ) → length x ≡ arity K → x ≡ stored K y → Joins K y s m m w w (run-state false (s .n) 0)) → JoinsAs x s m m w w r
+failed {x} {s} {r} {m} {w} e h = subst (λ q. JoinsAs x s m m w w q) (sym e) (record { small = omega arith; node = h })

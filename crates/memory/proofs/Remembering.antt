@@ -19,7 +19,7 @@ use Rattle.memory.specs.declared.Lookup.the-variants.{Answer, Operands}
 use Rattle.memory.specs.Performing.{Ready, Condition, PerformsOn, ReducesTo, ReducesOn, looked-up, LooksUpOn, Recalls, KeepsEntry, Remembered}
 use Rattle.memory.specs.Memo.{memo-program}
 use Rattle.memory.specs.Rows.{row, places, plain}
-use Rattle.memory.specs.Working.{memo-size, links-at, words-at, Indexed, Known, tag, Entry, Remembers, Right}
+use Rattle.memory.specs.Working.{memo-size, links-at, words-at, Indexed, Known, tag, Entry, Remembers, Right, index-size, set-words-from}
 use Rattle.memory.proofs.Parts.{drop-at-same}
 use Rattle.memory.proofs.Steps.{was-ok, done-ran, turn, called}
 
@@ -38,11 +38,11 @@ module _ (w w′ : List ℕ) (long : length w′ ≡ length w) (rest : drop (mem
 
   pub word-behind : (J : Kind) (i : ℕ) → getD w′ (words-at J (length w′) + i) 0 ≡ getD w (words-at J (length w) + i) 0
   word-behind rel i =
-      ap (λ k. getD w′ k 0) (add-assoc (memo-size (length w′)) 8192 i) ∙ behind (8192 + i)
-      ∙ ap (λ k. getD w k 0) (sym (add-assoc (memo-size (length w)) 8192 i))
+      ap (λ k. getD w′ k 0) (add-assoc (memo-size (length w′)) index-size i) ∙ behind (index-size + i)
+      ∙ ap (λ k. getD w k 0) (sym (add-assoc (memo-size (length w)) index-size i))
   word-behind set i =
-      ap (λ k. getD w′ k 0) (add-assoc (memo-size (length w′)) 12288 i) ∙ behind (12288 + i)
-      ∙ ap (λ k. getD w k 0) (sym (add-assoc (memo-size (length w)) 12288 i))
+      ap (λ k. getD w′ k 0) (add-assoc (memo-size (length w′)) set-words-from i) ∙ behind (set-words-from + i)
+      ∙ ap (λ k. getD w k 0) (sym (add-assoc (memo-size (length w)) set-words-from i))
 
 -- the entry of an operation that is settled
 entry-new : (op l a b h : ℕ) (x : List ℕ) {S : Store} → l < 256 → x ≡ tag op l ∷ a ∷ b ∷ h ∷ [] → Settled (memo-program op l a b) S h → Entry x S

@@ -8,7 +8,7 @@ use Rattle.model.specs.Store.{Kind, arity, Store, nodes, handle-of}
 use Rattle.model.specs.WellFormed.{WellFormed}
 use Rattle.memory.specs.Rows.{row, plain}
 use Rattle.memory.specs.Finding.{Emptied}
-use Rattle.memory.specs.Working.{memo-size, words-at, last-in, Indexed, Known, Entry, Right}
+use Rattle.memory.specs.Working.{memo-size, words-at, last-in, Indexed, Known, Entry, Right, index-size}
 use Rattle.memory.proofs.Known.{known-nothing}
 use Rattle.memory.proofs.Parts.{words-same, entry-same}
 use Rattle.memory.proofs.Rows.{row-at}
@@ -16,7 +16,7 @@ use Rattle.memory.proofs.Rows.{row-at}
 -- w′ is w but for its index
 pub record IndexApart (w w′ : List ℕ) : Type 0 where
   pub memo : take (memo-size (length w)) w′ ≡ take (memo-size (length w)) w
-  pub words : drop (memo-size (length w) + 8192) w′ ≡ drop (memo-size (length w) + 8192) w
+  pub words : drop (memo-size (length w) + index-size) w′ ≡ drop (memo-size (length w) + index-size) w
   pub work-length : length w′ ≡ length w
 
 pub emptied-apart : {w w′ : List ℕ} → Emptied w w′ → IndexApart w w′

@@ -5,7 +5,7 @@ use mathlib.Core.Bool.{Bool, true}
 use Prim.Native.Nat.{ℕ, _+_, _<_, _≤_}
 use lib.ListN.{length, take, drop}
 use Rattle.memory.specs.Rows.{row}
-use Rattle.memory.specs.Working.{memo-size, Indexed}
+use Rattle.memory.specs.Working.{memo-size, Indexed, index-size}
 
 -- r is a place of x among the first n nodes, or n; where the search may be trusted, n only if x is not among them
 pub record Finds (node : ℕ → List ℕ) (n : ℕ) (x : List ℕ) (good : Bool) (r : ℕ) : Type 0 where
@@ -25,12 +25,12 @@ SearchAt x m w at n r = (good : Bool) → at ≡ memo-size (length w) → (good 
 pub record Entered (node : ℕ → List ℕ) (n : ℕ) (w w′ : List ℕ) : Type 0 where
   pub index : Indexed node w n → Indexed node w′ (n + 1)
   pub memo : take (memo-size (length w)) w′ ≡ take (memo-size (length w)) w
-  pub words : drop (memo-size (length w) + 8192) w′ ≡ drop (memo-size (length w) + 8192) w
+  pub words : drop (memo-size (length w) + index-size) w′ ≡ drop (memo-size (length w) + index-size) w
   pub work-length : length w′ ≡ length w
 
 -- the index is empty, and nothing else changed
 pub record Emptied (w w′ : List ℕ) : Type 0 where
   pub index : (node : ℕ → List ℕ) → Indexed node w′ 0
   pub memo : take (memo-size (length w)) w′ ≡ take (memo-size (length w)) w
-  pub words : drop (memo-size (length w) + 8192) w′ ≡ drop (memo-size (length w) + 8192) w
+  pub words : drop (memo-size (length w) + index-size) w′ ≡ drop (memo-size (length w) + index-size) w
   pub work-length : length w′ ≡ length w

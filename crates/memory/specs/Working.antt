@@ -13,17 +13,35 @@ use Rattle.memory.specs.Rows.{row, plain}
 use Rattle.memory.specs.Memo.{memo-program}
 use Rattle.memory.specs.declared.Properties.{Properties}
 
--- PARTS, by the length of the whole: the memo; 4,096 bucket heads and 4,096 links of the index; a property word for each of 4,096
--- places of relations, then of sets. The memo has what the others leave, at least 4,096 numbers where there are so many.
+-- PARTS: the memo; the index, a head for each of 4,096 buckets and a link for each place; a property word for each place of relations, then of
+-- sets. src/index.rt has these sizes for the code.
+abbrev pub part-size : ℕ
+part-size = 4096
+
+abbrev pub index-size : ℕ
+index-size = 8192
+
+-- what follows the memo where the words of sets begin, and where all parts end
+abbrev pub set-words-from : ℕ
+set-words-from = 12288
+
+abbrev pub parts-size : ℕ
+parts-size = 16384
+
+-- the length from which on all parts are whole
+abbrev pub whole-size : ℕ
+whole-size = 20480
+
+-- the memo has what the others leave, by the length of all; at least as many numbers as another part where there are so many
 abbrev pub memo-size : ℕ → ℕ
-memo-size l = pick (ltb l 20480) (min 4096 l) (l - 16384)
+memo-size l = pick (ltb l whole-size) (min part-size l) (l - parts-size)
 
 abbrev pub links-at : ℕ → ℕ
-links-at l = memo-size l + 4096
+links-at l = memo-size l + part-size
 
 abbrev pub words-at : Kind → ℕ → ℕ
-words-at rel l = memo-size l + 8192
-words-at set l = memo-size l + 12288
+words-at rel l = memo-size l + index-size
+words-at set l = memo-size l + set-words-from
 
 -- INDEX: chained buckets. A value is a node's place and one, or 0 for none.
 abbrev mixed : ℕ → List ℕ → ℕ

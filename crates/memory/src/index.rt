@@ -5,22 +5,35 @@ ghost use mathlib.Core.Bool.{Bool, true, false};
 ghost use Prim.Native.Nat.{ℕ, _+_, _*_, _%_, _<_, _≤_};
 ghost use lib.ListN.{length};
 ghost use Rattle.memory.specs.Rows.{row};
-ghost use Rattle.memory.specs.Working.{memo-size, bucket};
+ghost use Rattle.memory.specs.Working.{index-size, memo-size, bucket};
 ghost use Rattle.memory.specs.Finding.{Finds, Search, SearchAt, Entered, Emptied};
 
-const PART: usize = 4096;
+// THE PARTS of the working memory after the memo, specs/Working: the bucket heads, the links, the words of relations and those of sets, so many numbers each.
+pub const PART: usize = 4096;
+
+// The index: heads and links.
+pub const INDEX: usize = 2 * PART;
+
+// How far behind the memo the words of sets begin.
+pub const SET_WORDS: usize = 3 * PART;
+
+// All parts but the memo.
+const PARTS: usize = 4 * PART;
+
+// The length from which on all parts are whole.
+const WHOLE: usize = 5 * PART;
 
 // The numbers of the memo in a working memory of this length; the index follows them.
 pub fn memo_size(len: usize) -> usize
     ensures { λ r. ⌜ (r ≡ memo-size len) × (r ≤ len) ⌝ }
 {
-    if len < 20480 {
+    if len < WHOLE {
         if len < PART {
             return len;
         }
         return PART;
     }
-    len - 16384
+    len - PARTS
 }
 
 // One more number mixed in.
@@ -91,7 +104,7 @@ fn scan(nodes: &[u32], n: usize, x: &[u32]) -> usize
 
 // The search along the chain of the node's bucket; it ends whatever the index holds.
 fn chase(nodes: &[u32], work: &[u32], at: usize, n: usize, x: &[u32]) -> usize
-    requires { ⌜ (length (now x) * n ≤ length (now nodes)) × (at + 8192 ≤ length (now work)) × (n ≤ 4096) ⌝ }
+    requires { ⌜ (length (now x) * n ≤ length (now nodes)) × (at + index-size ≤ length (now work)) × (n ≤ 4096) ⌝ }
     ensures { λ r. ⌜ SearchAt (now (x .entry)) (now (nodes .entry)) (now (work .entry)) at n r ⌝ }
 {
     let b = hash(x);
@@ -119,7 +132,7 @@ pub fn find(nodes: &[u32], work: &[u32], n: usize, x: &[u32]) -> usize
     ensures { λ r. ⌜ Search (now (x .entry)) (now (nodes .entry)) (now (work .entry)) n r ⌝ }
 {
     let at = memo_size(work.len());
-    if work.len() - at < 8192 {
+    if work.len() - at < INDEX {
         return scan(nodes, n, x);
     }
     chase(nodes, work, at, n, x)
@@ -127,7 +140,7 @@ pub fn find(nodes: &[u32], work: &[u32], n: usize, x: &[u32]) -> usize
 
 // Node n, of bucket b, joins the index that begins at this place.
 pub fn link(work: &mut [u32], at: usize, n: usize, b: usize)
-    requires { ⌜ (at + 8192 ≤ length (now work)) × (n < 4096) × (b < 4096) ⌝ }
+    requires { ⌜ (at + index-size ≤ length (now work)) × (n < 4096) × (b < 4096) ⌝ }
     ensures { λ _. ⌜ ((node : ℕ → List ℕ) → at ≡ memo-size (length (now (work .entry))) → b ≡ bucket (node n)
         → Entered node n (now (work .entry)) (now (work .exit))) ⌝ }
 {
@@ -142,7 +155,7 @@ pub fn enter(nodes: &[u32], work: &mut [u32], c: usize, n: usize)
     ensures { λ _. ⌜ Entered (row c (now (nodes .entry))) n (now (work .entry)) (now (work .exit)) ⌝ }
 {
     let at = memo_size(work.len());
-    if work.len() - at < 8192 {
+    if work.len() - at < INDEX {
         return;
     }
     let s = c * n;
@@ -156,8 +169,8 @@ pub fn empty(work: &mut [u32])
     ensures { λ _. ⌜ Emptied (now (work .entry)) (now (work .exit)) ⌝ }
 {
     let m = memo_size(work.len());
-    if work.len() - m < 8192 {
+    if work.len() - m < INDEX {
         return;
     }
-    crate::clear(&mut work[m..m + 4096]);
+    crate::clear(&mut work[m..m + PART]);
 }

@@ -1,5 +1,6 @@
 // A node joins the nodes of its kind.
 ghost use mathlib.Core.Path.{_≡_};
+ghost use mathlib.Core.Bool.{false};
 ghost use Prim.Native.Nat.{ℕ, _+_, _*_, _<_, _≤_};
 ghost use lib.ListN.{length};
 ghost use lib.Seq.{paste};
@@ -13,6 +14,17 @@ pub fn with_handle(s: crate::RunState, h: u32) -> crate::RunState
         ok: s.ok,
         n: s.n,
         h: h,
+    }
+}
+
+// No place for a node.
+pub(crate) fn fails(n: usize) -> crate::RunState
+    ensures { λ r. ⌜ r ≡ run-state false n 0 ⌝ }
+{
+    crate::RunState {
+        n: n,
+        h: 0,
+        ok: false,
     }
 }
 
@@ -38,18 +50,10 @@ pub fn join(nodes: &mut [u32], work: &mut [u32], s: crate::RunState, x: &[u32]) 
     let c = x.len();
     let p = crate::places_of(nodes.len(), c);
     if !s.ok {
-        return crate::RunState {
-            ok: false,
-            n: n,
-            h: 0,
-        };
+        return fails(n);
     }
     if n > p {
-        return crate::RunState {
-            ok: false,
-            n: n,
-            h: 0,
-        };
+        return fails(n);
     }
     let i = crate::index::find(nodes, work, n, x);
     if i < n {
@@ -60,11 +64,7 @@ pub fn join(nodes: &mut [u32], work: &mut [u32], s: crate::RunState, x: &[u32]) 
         };
     }
     if n >= p {
-        return crate::RunState {
-            ok: false,
-            n: n,
-            h: 0,
-        };
+        return fails(n);
     }
     put(nodes, n, x);
     crate::property_words::note(work, x, n);

@@ -44,7 +44,11 @@ fn words_start(len: usize, c: usize) -> usize
     ensures { λ r. ⌜ ((K : Kind) → c ≡ arity K → r ≡ min (words-at K len) len) × (r ≤ len) ⌝ }
 {
     let at = crate::index::memo_size(len);
-    let after = if c == 2 { 12288 } else { 8192 };
+    let after = if c == 2 {
+        crate::index::SET_WORDS
+    } else {
+        crate::index::INDEX
+    };
     if len - at < after {
         return len;
     }
@@ -56,7 +60,11 @@ fn words_end(len: usize, s: usize) -> usize
     requires { ⌜ s ≤ len ⌝ }
     ensures { λ r. ⌜ (s ≤ r) × (r ≤ len) × (r ≤ s + 4096) ⌝ }
 {
-    if len - s < 4096 { len } else { s + 4096 }
+    if len - s < crate::index::PART {
+        len
+    } else {
+        s + crate::index::PART
+    }
 }
 
 // The word of a set's other handle.

@@ -7,12 +7,10 @@ ghost use lib.ListN.{length};
 ghost use lib.Seq.{paste};
 ghost use Rattle.model.specs.Store.{rel};
 ghost use Rattle.memory.specs.Rows.{row};
-ghost use Rattle.memory.specs.Working.{bucket};
+ghost use Rattle.memory.specs.Working.{index-size, bucket};
 ghost use Rattle.memory.specs.Finding.{SearchAt};
 ghost use Rattle.memory.specs.Noting.{Noted};
-ghost use Rattle.memory.specs.Performing.{run-state, JoinsAs};
-
-const PART: usize = 4096;
+ghost use Rattle.memory.specs.Performing.{JoinsAs};
 
 // The bucket of a node.
 fn hash(x00: u32, x01: u32, x10: u32, x11: u32) -> usize
@@ -56,7 +54,7 @@ fn chase(
     x10: u32,
     x11: u32,
 ) -> usize
-    requires { ⌜ (4 * n ≤ length (now nodes)) × (at + 8192 ≤ length (now work)) × (n ≤ 4096) × (b < 4096) × (b ≡ bucket (x00 ∷ x01 ∷ x10 ∷ x11 ∷ [])) ⌝ }
+    requires { ⌜ (4 * n ≤ length (now nodes)) × (at + index-size ≤ length (now work)) × (n ≤ 4096) × (b < 4096) × (b ≡ bucket (x00 ∷ x01 ∷ x10 ∷ x11 ∷ [])) ⌝ }
     ensures { λ r. ⌜ SearchAt (x00 ∷ x01 ∷ x10 ∷ x11 ∷ []) (now (nodes .entry)) (now (work .entry)) at n r ⌝ }
 {
     let mut v = crate::as_index(work[at + b]);
@@ -68,7 +66,7 @@ fn chase(
         if same(nodes, i, x00, x01, x10, x11) {
             return i;
         }
-        let next = crate::as_index(work[at + PART + i]);
+        let next = crate::as_index(work[at + crate::index::PART + i]);
         if next >= v {
             return n;
         }
@@ -98,17 +96,6 @@ fn note(work: &mut [u32], n: usize, x00: u32, x01: u32, x10: u32, x11: u32)
     crate::property_words::write(work, 4, n, v);
 }
 
-// No place.
-fn fails(n: usize) -> crate::RunState
-    ensures { λ r. ⌜ r ≡ run-state false n 0 ⌝ }
-{
-    crate::RunState {
-        n: n,
-        h: 0,
-        ok: false,
-    }
-}
-
 // The place of the node: the one where it is held, or the next one. Without an index it goes the way of all nodes.
 pub fn join(
     nodes: &mut [u32],
@@ -122,17 +109,17 @@ pub fn join(
     ensures { λ r. ⌜ JoinsAs (x00 ∷ x01 ∷ x10 ∷ x11 ∷ []) s (now (nodes .entry)) (now (nodes .exit)) (now (work .entry)) (now (work .exit)) r ⌝ }
 {
     let at = crate::index::memo_size(work.len());
-    if work.len() - at < 8192 {
+    if work.len() - at < crate::index::INDEX {
         let x = [x00, x01, x10, x11];
         return crate::insert::join(nodes, work, s, &x);
     }
     let n = s.n;
     if !s.ok {
-        return fails(n);
+        return crate::insert::fails(n);
     }
     let p = crate::places_of(nodes.len(), 4);
     if n > p {
-        return fails(n);
+        return crate::insert::fails(n);
     }
     let b = hash(x00, x01, x10, x11);
     let i = chase(nodes, work, at, n, b, x00, x01, x10, x11);
@@ -144,7 +131,7 @@ pub fn join(
         };
     }
     if n >= p {
-        return fails(n);
+        return crate::insert::fails(n);
     }
     put(nodes, n, x00, x01, x10, x11);
     note(work, n, x00, x01, x10, x11);

@@ -7,7 +7,7 @@ use Rattle.model.specs.Store.{Kind, set, rel, Store}
 use Rattle.memory.specs.Performing.{other}
 use Rattle.memory.specs.Finding.{Emptied, Entered}
 use Rattle.memory.specs.Rows.{row, plain}
-use Rattle.memory.specs.Working.{memo-size, Indexed}
+use Rattle.memory.specs.Working.{memo-size, Indexed, index-size}
 use Rattle.memory.proofs.Starting.{IndexApart, emptied-apart, right-indexed}
 use Rattle.store_check.specs.Reindexing.{Reindexed}
 
@@ -15,7 +15,7 @@ use Rattle.store_check.specs.Reindexing.{Reindexed}
 apart-then : {w₀ w w′ : List ℕ} → IndexApart w₀ w → IndexApart w w′ → IndexApart w₀ w′
 apart-then {w = w} {w′ = w′} A E = record {
   memo = subst (λ l. take (memo-size l) w′ ≡ take (memo-size l) w) (A .work-length) (E .memo) ∙ A .memo;
-  words = subst (λ l. drop (memo-size l + 8192) w′ ≡ drop (memo-size l + 8192) w) (A .work-length) (E .words) ∙ A .words;
+  words = subst (λ l. drop (memo-size l + index-size) w′ ≡ drop (memo-size l + index-size) w) (A .work-length) (E .words) ∙ A .words;
   work-length = E .work-length ∙ A .work-length;
 }
 

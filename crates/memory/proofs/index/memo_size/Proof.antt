@@ -4,15 +4,15 @@ use Prim.Native.Nat.{ℕ, _-_, _<_, _≤_, min}
 use native.Mathlib.Omega.{arith}
 use borrow.Author.Needs.{needs}
 use borrow.Author.Tests.{lt-ltb, le-ltb}
-use Rattle.memory.specs.Working.{memo-size}
+use Rattle.memory.specs.Working.{memo-size, parts-size, whole-size}
 use Rattle.memory.proofs.index.memo_size.Statement.{statement}
 use Rattle.memory.proofs.index.memo_size.Tie as tie
 
-small : (r l : ℕ) → l < 20480 → r ≡ min 4096 l → r ≡ memo-size l
-small r l h e = rw (lt-ltb l 20480 h) e
+small : (r l : ℕ) → l < whole-size → r ≡ min 4096 l → r ≡ memo-size l
+small r l h e = rw (lt-ltb l whole-size h) e
 
-large : (l : ℕ) → 20480 ≤ l → l - 16384 ≡ memo-size l
-large l h = rw (le-ltb l 20480 h)
+large : (l : ℕ) → whole-size ≤ l → l - parts-size ≡ memo-size l
+large l h = rw (le-ltb l whole-size h)
 
 returns : tie.Need-returns
 returns c = let l = c .before .before .args .len in (small l l (omega arith) (omega arith), omega arith)

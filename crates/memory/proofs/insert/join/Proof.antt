@@ -4,21 +4,19 @@ use lib.ListN.{length}
 use borrow.Author.Needs.{needs}
 use borrow.Author.Tests.{not-true, not-false}
 use Rattle.memory.proofs.Rows.{places-fit, place-fits}
-use Rattle.memory.proofs.Joining.{joins-stuck, joins-never, joins-found, joins-full, joins-new}
+use Rattle.memory.proofs.Joining.{failed, joins-stuck, joins-never, joins-found, joins-full, joins-new}
 use Rattle.memory.proofs.insert.join.Statement.{statement}
 use Rattle.memory.proofs.insert.join.Tie as tie
 
 returns : tie.Need-returns
 returns c =
-    let c6 = c .before .before .before .before .before .before in
-    record { small = omega arith; node = λ K y z e. joins-stuck y (c6 .args .x .now) (not-true _ (c .if1 .taken)) }
+    let c7 = c .before .before .before .before .before .before .before in
+    failed (c .fails .ensures) (λ K y z e. joins-stuck y (c7 .args .x .now) (not-true _ (c .before .if1 .taken)))
 
 returns-2 : tie.Need-returns-2
-returns-2 c = record {
-  small = omega arith;
-  node = λ K y z e. joins-never y (c .before .before .before .before .before .before .before .args .x .now) z
-      (omega (arith, c .before .before .before .places-of .ensures));
-}
+returns-2 c =
+    let c8 = c .before .before .before .before .before .before .before .before in
+    failed (c .fails2 .ensures) (λ K y z e. joins-never y (c8 .args .x .now) z (omega (arith, c .before .before .before .before .places-of .ensures)))
 
 find-requires : tie.Need-find-requires
 find-requires c κs =
@@ -40,15 +38,12 @@ returns-3 c =
 
 returns-4 : tie.Need-returns-4
 returns-4 c =
-    let c6 = c .before .before .before .before .before .before in
-    let c8 = c6 .before .before in
-    let c12 = c8 .before .before .before .before in
-    record {
-      small = omega arith;
-      node = λ K y z e. joins-full y (c12 .args .x .now)
-          (not-false _ (c6 .if1 .left)) z e (c .before .before .find .result) (c .before .before .find .ensures)
-          (λ h. omega arith) (omega (arith, c8 .places-of .ensures));
-    }
+    let c7 = c .before .before .before .before .before .before .before in
+    let c9 = c7 .before .before in
+    let c13 = c9 .before .before .before .before in
+    failed (c .fails3 .ensures) (λ K y z e. joins-full y (c13 .args .x .now)
+    (not-false _ (c7 .if1 .left)) z e (c .before .before .before .find .result) (c .before .before .before .find .ensures)
+    (λ h. omega arith) (omega (arith, c9 .places-of .ensures)))
 
 put-requires : tie.Need-put-requires
 put-requires c κs =
@@ -84,13 +79,16 @@ join-spec =
     tie.close
     (tie.spec
     (λ c κs. search needs)
+    (λ c κs. search needs)
     returns
+    (λ c κs. search needs)
     returns-2
     find-requires
     (λ c. search needs)
     (λ c. search needs)
     (λ c. search needs)
     returns-3
+    (λ c κs. search needs)
     (λ c. search needs)
     (λ c. search needs)
     returns-4

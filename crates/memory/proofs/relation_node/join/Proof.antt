@@ -1,28 +1,20 @@
--- `four::join` makes the node that `mk` makes: its returns by the laws of `Joining`, or by the `join` of all nodes where there is no index.
-use mathlib.Core.Path.{_≡_, refl, sym, ap, _∙_, subst}
+-- `relation_node::join` makes the node that `mk` makes: its returns by the laws of `Joining`, or by the `join` of all nodes where there is no index.
+use mathlib.Core.Path.{_≡_, refl, sym, ap, _∙_}
 use mathlib.Core.List.{List, [], _∷_}
-use mathlib.Core.Bool.{false}
 use Prim.Native.Nat.{ℕ, _*_, _<_, _≤_}
 use native.Mathlib.Omega.{arith}
 use lib.ListN.{length}
 use lib.Seq.{paste}
 use borrow.Author.Needs.{needs}
 use borrow.Author.Tests.{not-true, not-false}
-use Rattle.model.specs.Store.{Kind, set, rel, arity, stored}
-use Rattle.memory.specs.declared.RunState.{RunState}
-use Rattle.memory.specs.Performing.{run-state, Joins, JoinsAs}
+use Rattle.model.specs.Store.{Kind, set, rel, arity}
 use Rattle.memory.specs.Noting.{Noted}
 use Rattle.memory.specs.Rows.{row, places}
 use Rattle.memory.specs.Working.{memo-size, bucket}
 use Rattle.memory.proofs.Rows.{places-fit, place-fits, paste-row}
-use Rattle.memory.proofs.Joining.{joins-stuck, joins-never, joins-found, joins-full, joins-new}
+use Rattle.memory.proofs.Joining.{failed, joins-stuck, joins-never, joins-found, joins-full, joins-new}
 use Rattle.memory.proofs.relation_node.join.Statement.{statement}
 use Rattle.memory.proofs.relation_node.join.Tie as tie
-
--- what `fails` gives
-failed : {x : List ℕ} {s r : RunState} {m w : List ℕ} → r ≡ run-state false (s .n) 0
-    → ((K : Kind) (y : List ℕ) → length x ≡ arity K → x ≡ stored K y → Joins K y s m m w w (run-state false (s .n) 0)) → JoinsAs x s m m w w r
-failed {x} {s} {r} {m} {w} e h = subst (λ q. JoinsAs x s m m w w q) (sym e) (record { small = omega arith; node = h })
 
 -- a node of four numbers is a relation's
 of-relation : (x : List ℕ) (n : ℕ) (w w′ : List ℕ) → Noted rel x n w w′ → (K : Kind) → 4 ≡ arity K → Noted K x n w w′
