@@ -47,7 +47,7 @@ put-head rel [] n h = absurd (omega arith)
 put-head rel (x ∷ []) n h = absurd (omega arith)
 put-head rel (x ∷ y ∷ m) n h = refl
 
--- the count stands in the head
+-- the count is in the head
 counted : (K : Kind) → count-at K < head K
 counted set = omega arith
 counted rel = omega arith

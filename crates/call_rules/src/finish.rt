@@ -4,7 +4,7 @@ ghost use Prim.Native.Nat.{ℕ, _+_, _*_, _<_, _≤_};
 ghost use lib.ListN.{length};
 ghost use Rattle.call_rules.specs.Finishing.{Finished};
 
-// The handle, or 6 and the nodes are again as they were: n nodes of c numbers, which begin at `start`; their count stands at `at`.
+// The handle, or 6 and the nodes are again as they were: n nodes of c numbers, which begin at `start`; their count is at `at`.
 pub fn finish(
     memory: &mut [u32],
     at: usize,

@@ -2,7 +2,7 @@
 use libc::STDOUT_FILENO;
 
 // The listing of one file.
-fn run(name: &[u8]) {
+fn list_named(name: &[u8]) {
     io::write_all(STDOUT_FILENO, b"-- ");
     io::write_all(STDOUT_FILENO, name);
     io::write_all(STDOUT_FILENO, b"\n");
@@ -11,22 +11,22 @@ fn run(name: &[u8]) {
         os::fail(name);
         return;
     }
-    listing::run(file);
+    listing::list_file(file);
     libc::close(file);
 }
 
 // The file that argument i names.
-fn run_argument(i: usize) {
+fn list_argument(i: usize) {
     let mut name = io::buffer();
     let n = os::arg(i, &mut name);
-    run(&name[..n]);
+    list_named(&name[..n]);
 }
 
 fn main() {
     let count = os::arg_count();
     let mut i = 1;
     while i < count {
-        run_argument(i);
+        list_argument(i);
         i += 1;
     }
 }

@@ -38,14 +38,14 @@ unfoldable pub first-line : ℕ → List ℕ
 first-line k = ((107 ∷ 32 ∷ []) ++ decimal k) ++ (10 ∷ [])
 
 -- a space and the offset, where a refusal carries one
-unfoldable pub offset : List ℕ → List ℕ
-offset [] = []
-offset (i ∷ is) = (32 ∷ []) ++ decimal i
+unfoldable pub shown-offset : List ℕ → List ℕ
+shown-offset [] = []
+shown-offset (i ∷ is) = (32 ∷ []) ++ decimal i
 
 -- a space and `hH`, or `rR` and the offset
 unfoldable pub shown : PolicyAnswer → List ℕ
 shown (Handle h) = (32 ∷ 104 ∷ []) ++ decimal h
-shown (Declined r) = ((32 ∷ 114 ∷ []) ++ decimal (policy-number r)) ++ offset (policy-values (Declined r))
+shown (Declined r) = ((32 ∷ 114 ∷ []) ++ decimal (policy-number r)) ++ shown-offset (policy-values (Declined r))
 
 -- the number of a policy and its answer
 unfoldable pub answer-line : ℕ → PolicyAnswer → List ℕ

@@ -61,7 +61,7 @@ pub fn list(
 }
 
 // Reads all of a file, and writes its listing to standard output.
-pub fn run(file: i32) {
+pub fn list_file(file: i32) {
     let mut input = [0u8; INPUT];
     let n = io::read_full(file, &mut input);
     let mut relations = [0u32; RELATIONS];

@@ -165,7 +165,7 @@ module _ (node : ℕ → List ℕ) (n : ℕ) (x : List ℕ) where
     trail-next v next p l s en t = record { along = λ e h. along-next v next p (t .along e h) s (link-is v next p l en e h) }
 
     module _ (room : at + index-size ≤ length w) (v : ℕ) where
-      -- a value past the nodes, and a link that does not lead down, stand in no right index
+      -- a value past the nodes, and a link that does not lead down, are in no right index
       pub trail-past : n < v → Trail node w at n x v → LooksUp n
       trail-past l t good e ix = finds-none good (λ g. absurd (let a = t .along e (ix g (omega arith)) in omega (arith, a .low)))
 

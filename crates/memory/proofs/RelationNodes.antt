@@ -1,4 +1,4 @@
--- Four numbers that stand side by side: read, written, and as a node's bucket.
+-- Four numbers side by side: read, written, and as a node's bucket.
 use mathlib.Core.Path.{_≡_}
 use mathlib.Core.List.{List, [], _∷_}
 use Prim.Native.Nat.{ℕ, suc, _+_, _*_, _/_, _%_, _<_, _≤_}

@@ -23,7 +23,7 @@ use Rattle.memory.specs.Working.{memo-size, links-at, words-at, Indexed,
 use Rattle.memory.proofs.Parts.{drop-at-same}
 use Rattle.memory.proofs.Steps.{was-ok, done-ran, turn, called}
 
--- index and words stand behind the memo
+-- index and words are behind the memo
 module _ (w w′ : List ℕ) (long : length w′ ≡ length w) (rest : drop (memo-size (length w)) w′ ≡ drop (memo-size (length w)) w) where
   behind : (i : ℕ) → getD w′ (memo-size (length w′) + i) 0 ≡ getD w (memo-size (length w) + i) 0
   behind i = ap (λ l. getD w′ (memo-size l + i) 0) long ∙ drop-at-same (memo-size (length w)) w w′ rest i

@@ -91,7 +91,7 @@ plain-length K B m n = ap length (plain-nodes K B m n) ∙ rows-length (arity K)
 pub plain-at : (K : Kind) (B : Store) (m : List ℕ) (n i : ℕ) → i < n → getD (nodes K (plain K B m n)) i [] ≡ row (arity K) m i
 plain-at K B m n i h = ap (λ N. getD N i []) (plain-nodes K B m n) ∙ rows-at (arity K) n m i h
 
--- A NODE WRITTEN after n nodes: they stand, it is the next, what is beyond it stands
+-- A NODE WRITTEN after n nodes: they stay, it is the next, what is beyond it stays
 module _ (c n : ℕ) (m x : List ℕ) (sized : length x ≡ c) (fits : c * n + c ≤ length m) where
   pub paste-long : length (paste m (c * n) x c) ≡ length m
   paste-long = length-paste m (c * n) x c fits (omega arith)

@@ -1,4 +1,4 @@
--- Laws for functions that run a program on one kind's nodes, over each store with Q: what is left of it where they stand, and each kind of return.
+-- Laws for functions that run a program on one kind's nodes, over each store with Q: what is left of it, and each kind of return.
 use mathlib.Core.Path.{_≡_, refl, sym, ap, _∙_, subst}
 use mathlib.Core.List.{List}
 use mathlib.Core.Bool.{Bool, true, false, _&&_}

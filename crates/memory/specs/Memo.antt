@@ -82,6 +82,10 @@ op-ifelse = 64
 abbrev pub op-has-path : ℕ
 op-has-path = 1024
 
+-- numbers are below this, so that a tag has room for a level beside one
+abbrev pub op-limit : ℕ
+op-limit = 16777216
+
 -- the first program whose number is op
 abbrev entry : ℕ → ℕ → Prog → Prog → Prog
 entry op n p rest = pick (eqb op n) p rest

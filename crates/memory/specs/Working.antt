@@ -106,5 +106,5 @@ pub record Right (K : Kind) (B : Store) (w m : List ℕ) (n : ℕ) : Type 0 wher
   pub memo : Remembers w (plain K B m n)
   pub index : Indexed (row (arity K) m) w n
   pub words : Words w (plain K B m n)
-  -- no word stands past a count yet
+  -- no word is there past a count yet
   pub unset : (J : Kind) (i : ℕ) → length (nodes J (plain K B m n)) ≤ i → i < 4096 → getD w (words-at J (length w) + i) 0 ≡ 0

@@ -126,7 +126,7 @@ fn chase(nodes: &[u32], work: &[u32], at: usize, n: usize, x: &[u32]) -> usize
     n
 }
 
-// A place of the first n where x stands, or n; with an index of these nodes or none, n only where x is not among them.
+// A place of the first n where x is, or n; with an index of these nodes or none, n only where x is not among them.
 pub fn find(nodes: &[u32], work: &[u32], n: usize, x: &[u32]) -> usize
     requires { ⌜ (length (now x) * n ≤ length (now nodes)) × (n ≤ 4096) ⌝ }
     ensures { λ r. ⌜ Search (now (x .entry)) (now (nodes .entry)) (now (work .entry)) n r ⌝ }

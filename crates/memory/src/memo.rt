@@ -2,6 +2,7 @@
 ghost use mathlib.Core.Path.{_≡_};
 ghost use Prim.Native.Nat.{ℕ, _+_, _*_, _<_, _≤_};
 ghost use lib.ListN.{length};
+ghost use Rattle.memory.specs.Memo.{op-limit};
 ghost use Rattle.memory.specs.Performing.{Recalls, KeepsEntry, Remembered};
 
 // THE OPERATIONS' NUMBERS, by which the memo tells them apart; specs/Memo has the same names and says which program each number is.
@@ -69,7 +70,7 @@ fn slot(entries: usize, tag: u32, a: u32, b: u32) -> usize
 
 // What the memo holds on an operation of this level on a and b.
 pub fn recall(work: &[u32], op: u32, level: u8, a: u32, b: u32) -> crate::Lookup
-    requires { ⌜ (0 < op) × (op < 16777216) ⌝ }
+    requires { ⌜ (0 < op) × (op < op-limit) ⌝ }
     ensures { λ r. ⌜ Recalls (now (work .entry)) op level a b r ⌝ }
 {
     let entries = crate::index::memo_size(work.len()) / 4;
@@ -95,7 +96,7 @@ pub fn recall(work: &[u32], op: u32, level: u8, a: u32, b: u32) -> crate::Lookup
 
 // Keeps what an operation gave.
 pub fn keep(work: &mut [u32], op: u32, level: u8, a: u32, b: u32, h: u32)
-    requires { ⌜ op < 16777216 ⌝ }
+    requires { ⌜ op < op-limit ⌝ }
     ensures { λ _. ⌜ KeepsEntry (now (work .entry)) (now (work .exit)) op level a b h ⌝ }
 {
     let entries = crate::index::memo_size(work.len()) / 4;
@@ -122,7 +123,7 @@ pub fn remember(
     a: u32,
     b: u32,
 ) -> crate::RunState
-    requires { ⌜ op < 16777216 ⌝ }
+    requires { ⌜ op < op-limit ⌝ }
     ensures { λ q. ⌜ (q ≡ r) × Remembered r op level a b (now (work .entry)) (now (work .exit)) ⌝ }
 {
     if r.ok {

@@ -29,13 +29,13 @@ pub same-node-refl : (x : List ℕ) → T (same-node x x)
 same-node-refl [] = tt
 same-node-refl (a ∷ x) = both-T (eqb a a) (same-node x x) (eqb-refl a) (same-node-refl x)
 
--- M is N having x, and x stands there at p
+-- M is N having x, and x is there at p
 pub record Had (x : List ℕ) (N M : Nodes) (p : ℕ) : Type 0 where
   pub tail : Nodes
   pub split : M ≡ N ++ tail
   pub inside : p < length M
   pub found : getD M p [] ≡ x
-  -- nothing is added, or one node that was not there, and it stands at the end
+  -- nothing is added, or one node that was not there, and it is at the end
   pub new : (M ≡ N) ⊎ ((M ≡ N ++ (x ∷ [])) × (p ≡ length N) × ((i : ℕ) → i < length N → ¬ (getD N i [] ≡ x)))
 
 pub had : (x : List ℕ) (N : Nodes) → Had x N (having x N) (place x N)

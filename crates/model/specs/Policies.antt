@@ -22,7 +22,7 @@ pub data Policy : Type 0 where
   stars : Policy → Policy
 
 -- NetKAT without `dup`, for packets of k fields. The operand of a `!` is a predicate, which relates a packet to itself or to nothing; so 01's
--- "`!p` relates to themselves the packets p refuses" is what stands here: `negation-refuses` of proofs/Policies.
+-- "`!p` relates to themselves the packets p refuses" is what is said here: `negation-refuses` of proofs/Policies.
 unfoldable pub meaning : ℕ → Policy → Rel
 meaning k fail p q = ⊥
 meaning k skip p q = p ≡ q

@@ -23,7 +23,7 @@ abbrev pub Even : Kind → List ℕ → Type 0
 Even set x = sign x ≡ 0
 Even rel x = Unit {0}
 
--- the node x may stand at place i: 01, "A node's level is its children's plus one and at most k. A node's children are held earlier and share a level"
+-- the node x may be at place i: 01, "A node's level is its children's plus one and at most k. A node's children are held earlier and share a level"
 pub record Fits (k : ℕ) (K : Kind) (S : Store) (i : ℕ) (x : List ℕ) : Type 0 where
   pub sized : length x ≡ arity K
   pub level : ℕ

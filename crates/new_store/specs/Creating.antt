@@ -34,7 +34,7 @@ abbrev pub NewChecked : ℕ → ℕ → ℕ → Check → Type 0
 NewChecked a b k (No q) = (M : Memories) → length (M .relations) ≡ a → length (M .sets) ≡ b → outcome (Declined q) M ≡ new-step k M
 NewChecked a b k (Level l) = (l ≡ k) × (k ≤ 32) × (head rel ≤ a) × (head set ≤ b) × (3 * k ≤ places-for rel a) × (k ≤ places-for set b)
 
--- a memory without nodes: its places are zero, and its count, which stands at `at`; nodes of c numbers begin at `start`
+-- a memory without nodes: its places are zero, and its count, which is at `at`; nodes of c numbers begin at `start`
 abbrev pub emptied : ℕ → ℕ → ℕ → List ℕ → List ℕ
 emptied at start c m = put (cleared start (start + c * places-of (length m - start) c) m) at 0
 

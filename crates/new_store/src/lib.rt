@@ -37,7 +37,7 @@ fn check(relations: usize, sets: usize, k: u32) -> call_rules::Check
     call_rules::Check::Level(k)
 }
 
-// No node, and all places free: nodes of c numbers begin at `start`, their count stands at `at`.
+// No node, and all places free: nodes of c numbers begin at `start`, their count is at `at`.
 fn begin(memory: &mut [u32], at: usize, start: usize, c: usize)
     requires { ⌜ (at < start) × (0 < c) × (start ≤ length (now memory)) ⌝ }
     ensures { λ _. ⌜ now (memory .exit) ≡ emptied at start c (now (memory .entry)) ⌝ }

@@ -17,7 +17,7 @@ use Rattle.policy_build.specs.Building.{built, Named, BuildsPart, Builds
 use Rattle.policy_build.specs.declared.Built.{Built}
 use Rattle.policy_build.proofs.Suffixes.{first-is, next}
 
--- AN ATOM by its first byte, and what stands after that
+-- AN ATOM by its first byte, and what follows that
 data By (t : List ℕ) (at : ℕ) (rest : List ℕ) : ℕ → Policy → Type 0 where
   by-zero : drop (at + 1) t ≡ rest → By t at rest 48 Policy.fail
   by-one : drop (at + 1) t ≡ rest → By t at rest 49 Policy.skip

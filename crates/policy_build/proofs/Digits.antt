@@ -1,4 +1,4 @@
--- A field's number is read from its digits: none, one or two of them stand there.
+-- A field's number is read from its digits: there are none, one or two of them.
 use mathlib.Core.Path.{_≡_, refl, sym, ap, _∙_}
 use mathlib.Core.List.{List, _++_}
 use mathlib.Core.Bool.{Bool, true, false, _&&_}

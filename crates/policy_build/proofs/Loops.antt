@@ -43,7 +43,7 @@ sum-looped = record {
   apart = λ x n. n .2;
 }
 
--- part of the way: the chain's policy so far is built, and its steps to p stand ahead
+-- part of the way: the chain's policy so far is built, and its steps to p are ahead
 pub record OnWay (b : ℕ) (St : Step) (k : ℕ) (t : List ℕ) (p : Policy) (rest : List ℕ) (s : RunState) (m m′ w w′ : List ℕ) (r : Built) : Type 0 where
   pub so-far : Policy
   pub ahead : List ℕ

@@ -18,7 +18,7 @@ use Rattle.policy_build.specs.Building.{built, Named, BuildsPart, Builds
 use Rattle.policy_build.specs.declared.items.Number.{Number}
 use Rattle.policy_build.proofs.Suffixes.{first-is, next}
 
--- what stands after the `x`
+-- what follows the `x`
 data After (t : List ℕ) (at : ℕ) (rest : List ℕ) : Policy → Type 0 where
   a-tests : {f : List ℕ} {n c : ℕ} {v : Bool} → Field f n → Bit c v → drop at t ≡ f ++ (61 ∷ c ∷ rest) → After t at rest (tests n v)
   a-assigns : {f : List ℕ} {n c : ℕ} {v : Bool} → Field f n → Bit c v → drop at t ≡ f ++ (58 ∷ 61 ∷ c ∷ rest) → After t at rest (assigns n v)

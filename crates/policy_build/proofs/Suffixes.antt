@@ -1,4 +1,4 @@
--- What stands in a text from an offset on.
+-- What a text has from an offset on.
 use mathlib.Core.Path.{_≡_, refl, sym, ap, _∙_}
 use mathlib.Core.List.{List, [], _∷_}
 use Prim.Native.Nat.{ℕ, _+_, _≤_}
@@ -17,7 +17,7 @@ module _ (t : List ℕ) (at : ℕ) where
   pub next : {b : ℕ} {r : List ℕ} → drop at t ≡ b ∷ r → drop (at + 1) t ≡ r
   next h = sym (drop-drop 1 at t) ∙ ap (λ x. drop 1 x) h
 
-  -- past the end nothing stands
+  -- past the end there is nothing
   pub none-left : length t ≤ at → drop at t ≡ []
   none-left h = empty (drop at t) (omega (arith, length-drop at t))
     where

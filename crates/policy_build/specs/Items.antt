@@ -12,7 +12,7 @@ pub record Past (t : List ℕ) (at r : ℕ) : Type 0 where
   pub within : r ≤ length t
   pub rest : drop r t ≡ drop (at + 1) t
 
--- r has the number of the field that stands here, with no digit after it, and where it ends
+-- r has the number of the field that is here, with no digit after it, and where it ends
 pub record ReadsNumber (t : List ℕ) (at : ℕ) (r : Number) : Type 0 where
   pub from : at ≤ r .end
   pub within : r .end ≤ length t

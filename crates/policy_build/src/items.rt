@@ -59,7 +59,7 @@ pub(crate) fn field(text: &[u8], at: usize) -> Number
     }
 }
 
-// The value: whether `1` stands here.
+// The value: whether `1` is here.
 pub(crate) fn bit(text: &[u8], at: usize) -> bool
     ensures { λ r. ⌜ r ≡ eqb (getD (now (text .entry)) at 0) 49 ⌝ }
 {

@@ -262,7 +262,7 @@ module _ (X : Lexicon) where
     atom-over d at h (inl b) l = λ sa pa n σ g. scan-over _ at h (step-bang-over sa pa n σ _ b (omega arith))
     atom-over d at h (inr b) l = λ sa pa n σ g. scan-over _ at h (step-open-over sa pa n σ _ b (omega arith))
 
-    -- `(`, a sum, and `)`, or what stands in its place
+    -- `(`, a sum, and `)`, or what is in its place
     module _ (d at : ℕ) (h : at < length t) (b : getD t at 0 ≡ 40) (l : d < 32) where
       opened : (sa pa : Acc) (n : ℕ) (σ : List Frame) → n + nesting σ ≡ d
           → scan-at X t (need sa pa n σ) at ≡ scan-at X t (need nothing nothing 0 (paren sa pa n ∷ σ)) (at + 1)

@@ -97,7 +97,7 @@ module _ {X : Lexicon} (laws : Lawful X) where
   keeps L K (inside m sa pa n σ) b h = keeps-refl (mid-go (mid-step X m b) sa pa n σ)
   keeps L K (post v sa pa σ) b h = keeps-refl (byte-step X L (post v sa pa σ) b)
 
-  -- The depth of a state that a run reaches is within the limit, and what is read of a spelling begins one.
+  -- The depth of a state that a scan reaches is within the limit, and what is read of a spelling begins one.
   abbrev Within : ℕ → State → Type 0
   Within L (need sa pa n σ) = n + nesting σ ≤ L
   Within L (inside m sa pa n σ) = (n + nesting σ ≤ L) × Spelling m
@@ -331,7 +331,7 @@ module _ {X : Lexicon} (laws : Lawful X) where
     place-in : (k : Bool) (R : Reached 32 k start 0 t i) → length t ≡ i + length (R .back)
     place-in k R = ap length (R .split) ∙ length-append (R .front) (R .back) ∙ ap (λ (x : ℕ). x + length (R .back)) (sym (omega (arith, R .offset)))
 
-    -- at the place stands a byte that stops the run at every limit
+    -- at the place is a byte that stops the scan at every limit
     stops-there : (R : Reached 32 true start 0 t i) (K : ℕ) → 32 ≤ K → (back : List ℕ) → R .back ≡ back → i < length t → (w : List ℕ)
         → scan X K start 0 (take (suc i) t ++ w) ≡ bad i
     unfolding onward

@@ -1,5 +1,5 @@
 -- What each reading says of its text, and that a text keeps the rules exactly when it reads as a policy; from the machine's laws, the
--- rules' and where each spelling and each `!` stands.
+-- rules' and where each spelling and each `!` is.
 use mathlib.Core.Path.{_≡_, refl, sym, ap, subst, _∙_}
 use mathlib.Core.Logic.{_↔_}
 use Prim.Native.Nat.{ℕ, _≤_}

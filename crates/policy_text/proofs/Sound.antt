@@ -40,7 +40,7 @@ module _ {X : Lexicon} (laws : Lawful X) where
     plus-none : PlusL d [] nothing
     plus-some : {s : List ℕ} {p : Policy} → Sum X d s p → PlusL d (s ++ (43 ∷ [])) (sofar p)
 
-  -- what stands before a level that has d left, with the `(` that opens it
+  -- what is before a level that has d left, with the `(` that opens it
   data Stack (L : ℕ) : ℕ → List ℕ → List Frame → Type 0 where
     stack-none : Stack L L [] []
     stack-paren : {d e n : ℕ} {s x y : List ℕ} {sa pa : Acc} {σ : List Frame} → Stack L d s σ → PlusL d x sa → SeqL d y pa → suc (n + e) ≡ d

@@ -45,7 +45,7 @@ unfolding x-begins? x-whole? reading reading-of rules first field-number no-fiel
     after-name close join-seq join-plus negs nesting leaf
 worked = refl
 
--- `!x0=1;(1+0*)**`: joins group from the left, and a star is of what stands before it
+-- `!x0=1;(1+0*)**`: joins group from the left, and a star is of what is before it
 grouped : tree x-forms (33 ∷ 120 ∷ 48 ∷ 61 ∷ 49 ∷ 59 ∷ 40 ∷ 49 ∷ 43 ∷ 48 ∷ 42 ∷ 41 ∷ 42 ∷ 42 ∷ [])
     ≡ Policy.seq (Policy.negates (Policy.tests 0 true)) (Policy.stars (Policy.stars (Policy.plus Policy.skip (Policy.stars Policy.fail))))
 unfolding x-begins? x-whole? tree tree-of reads scan final byte-step onward mid-step mid-go after-name close join-seq join-plus negs nesting leaf

@@ -1,5 +1,5 @@
 -- The grammar of policy texts: which bytes are a sum, a product, a starred item or an atom, and of which policy; 01, "The text
--- at the entry". The number is how many `(` and `!` may stand around an atom, counted from this part of the text inwards.
+-- at the entry". The number is how many `(` and `!` may be around an atom, counted from this part of the text inwards.
 use Prim.Native.Nat.{ℕ, suc, _≤_, _<_}
 use lib.ListN.{length, take}
 use mathlib.Core.List.{List, [], _∷_, _++_}

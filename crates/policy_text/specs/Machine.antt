@@ -1,4 +1,4 @@
--- The reader of policy texts, byte by byte: a state, what a byte does to it, and the run over a text, which stops at the first
+-- The reader of policy texts, byte by byte: a state, what a byte does to it, and the scan of a text, which stops at the first
 -- byte that cannot stand there (7) or the first `(` or `!` inside 32 others (9); 01, "What each operation declines, in order".
 use Prim.Native.Nat.{ℕ, zero, suc, _+_}
 use mathlib.Core.List.{List, [], _∷_, _++_}
@@ -12,7 +12,7 @@ pub data Acc : Type 0 where
   nothing : Acc
   sofar : Policy → Acc
 
--- an open parenthesis: the sum and the product that it stands in, and how many `!` stand right before it
+-- an open parenthesis: the sum and the product that it is in, and how many `!` are right before it
 pub data Frame : Type 0 where
   paren : Acc → Acc → ℕ → Frame
 
@@ -59,7 +59,7 @@ unfoldable pub join-plus : Acc → Policy → Policy
 join-plus nothing q = q
 join-plus (sofar p) q = Policy.plus p q
 
--- how many `(` and `!` stand around what is in these parentheses
+-- how many `(` and `!` are around what is in these parentheses
 unfoldable pub nesting : List Frame → ℕ
 nesting [] = 0
 nesting (paren sa pa n ∷ σ) = suc (n + nesting σ)
@@ -118,7 +118,7 @@ onward (go q) k at = k q
 onward stop k at = bad at
 onward over k at = deep at
 
--- the run from an offset over the text that is left
+-- the scan from an offset over the text that is left
 unfoldable pub scan : Lexicon → ℕ → State → ℕ → List ℕ → Out
 scan X L q at [] = final q at
 scan X L q at (b ∷ s) = onward (byte-step X L q b) (λ r. scan X L r (at + 1) s) at

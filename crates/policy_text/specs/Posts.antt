@@ -1,4 +1,4 @@
--- What the functions of `syntax` promise: each moves the run on over the part of the text that it read, whatever stands around it.
+-- What the functions of `syntax` promise: each moves the scan over the part of the text that it read, whatever is around it.
 use mathlib.Core.Path.{_≡_}
 use Prim.Native.Nat.{ℕ, _+_, _≤_, _<_}
 use mathlib.Core.List.{List, [], _∷_, _++_}
@@ -11,7 +11,7 @@ use Rattle.policy_text.specs.Machine.{Acc, Frame, State, need, inside, s
 use Rattle.policy_text.specs.declared.syntax.Read.{Read}
 use Rattle.policy_text.specs.declared.syntax.Read.the-variants.{End, Bad, Deep}
 
--- the run over what is left of the text from an offset on
+-- the scan over what is left of the text from an offset on
 unfoldable pub scan-at : Lexicon → List ℕ → State → ℕ → Out
 scan-at X t q at = scan X 32 q at (drop at t)
 

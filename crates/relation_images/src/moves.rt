@@ -5,7 +5,7 @@ ghost use Rattle.model.specs.Store.{set};
 ghost use Rattle.model.specs.Programs.{Prog};
 ghost use Rattle.model.specs.Images.{image-short, push, pull};
 ghost use Rattle.memory.specs.Performing.{PerformsOn, OtherNodes};
-ghost use Rattle.memory.specs.Memo.{memo-program};
+ghost use Rattle.memory.specs.Memo.{memo-program, op-limit};
 ghost use Rattle.relation_images.specs.Moves.{ImageReduces};
 
 // What shortcuts know of an image: the answer, the empty or full set, that of the full set, or nothing.
@@ -36,7 +36,7 @@ fn image_tests(
     x: u32,
     y: u32,
 ) -> Image
-    requires { ⌜ (0 < op) × (op < 16777216) ⌝ }
+    requires { ⌜ (0 < op) × (op < op-limit) ⌝ }
     ensures { λ r. ⌜ ((j : ℕ) (whole node : Prog) → node ≡ memo-program op level x y
         → ImageReduces (OtherNodes set (now (relations .entry)) j) (image-short level p a whole node) level whole node
         (now (sets .entry)) (now (work .entry)) r) ⌝ }

@@ -10,7 +10,7 @@ ghost use Rattle.memory.specs.Memo.{op-has-path};
 ghost use Rattle.relation_paths.specs.Paths.{PathReduces};
 
 // The memo has no number for an output set from here on.
-const NO_NUMBER: u32 = 16776192;
+const NO_NUMBER: u32 = memory::memo::OPERATIONS - memory::memo::HAS_PATH;
 
 // What shortcuts know of a path: the answer, that the two sets are to share a packet, that any output will do, or nothing.
 enum Route {

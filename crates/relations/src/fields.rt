@@ -8,12 +8,12 @@ ghost use Rattle.model.specs.Store.{rel, pick};
 ghost use Rattle.model.specs.Programs.{Prog};
 ghost use Rattle.model.specs.Operations.{fields, test, assign};
 ghost use Rattle.memory.specs.Performing.{Performs};
-ghost use Rattle.memory.specs.Memo.{op-test, op-assign};
+ghost use Rattle.memory.specs.Memo.{op-test, op-assign, op-limit};
 ghost use Rattle.relations.specs.Fields.{field-node};
 
 // The number of `assign` or of `test`.
 fn memo_number(assigns: bool) -> u32
-    ensures { λ r. ⌜ (r ≡ pick assigns op-assign op-test) × (0 < r) × (r < 16777216) ⌝ }
+    ensures { λ r. ⌜ (r ≡ pick assigns op-assign op-test) × (0 < r) × (r < op-limit) ⌝ }
 {
     if assigns {
         memory::memo::ASSIGN

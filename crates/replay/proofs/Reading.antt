@@ -7,7 +7,7 @@ use lib.ListN.{length, take, set, getD}
 use lib.Seq.{take-suc-set}
 use Rattle.replay.specs.Numbers.{Spells, Rest, none, more}
 
--- what is read so far stands before whatever the rest of the line has
+-- what is read so far is before whatever the rest of the line has
 abbrev pub So-far : List ℕ → ℕ → ℕ → List ℕ → Type 0
 So-far line from at xs = (ys : List ℕ) → Rest line at ys → Rest line from (xs ++ ys)
 

@@ -23,7 +23,7 @@ abbrev pub ReadsNumber : List ℕ → ℕ → Number → Type 0
 ReadsNumber line from (Is v end) = Spells line from v end
 ReadsNumber line from Nothing = Unit {0}
 
--- what stands in the line from a place on: these numbers, each after a space, and nothing else
+-- what the line has from a place on: these numbers, each after a space, and nothing else
 pub data Rest (line : List ℕ) : ℕ → List ℕ → Type 0 where
   none : {at : ℕ} → at ≡ length line → Rest line at []
   more : {at v end : ℕ} {xs : List ℕ} → getD line at 0 ≡ 32 → Spells line (at + 1) v end → Rest line end xs → Rest line at (v ∷ xs)

@@ -53,7 +53,7 @@ fn raise(nodes: &mut [u32], work: &mut [u32], r: memory::RunState, n: u8) -> mem
     raise(nodes, work, t, n - 1)
 }
 
-// How many fields of k stand after field var.
+// How many fields of k are after field var.
 fn fields_after(k: u8, var: u8) -> u8
     ensures { λ r. ⌜ r ≡ k - var - 1 ⌝ }
 {

@@ -57,7 +57,7 @@ room-says K m =
     (decided-and (decided-le (head K) (length m)) (decided-and (decided-le (count K m) (places-in K m))
     (decided-all n (λ j. eqb (f j) 0) (λ j. f j ≡ 0) (λ j. decided-eq (f j) 0))))
 
--- what stands before place i is held at a level of at most k
+-- what is before place i is held at a level of at most k
 module _ {k : ℕ} {K : Kind} {S : Store} (Z : Sized K S) (i : ℕ) (b : i ≤ length (nodes K S))
     (F : (j : ℕ) → j < i → Fits k K S j (getD (nodes K S) j [])) where
   early-held : (h : ℕ) → h < handle-of K 0 i → (l : ℕ) × (l ≤ k) × Held K S l h

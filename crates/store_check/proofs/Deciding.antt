@@ -1,4 +1,4 @@
--- Tests and what they decide: a Boolean stands beside its fact.
+-- Tests and what they decide: a Boolean beside its fact.
 use mathlib.Core.Path.{_≡_, refl, subst}
 use mathlib.Core.Logic.{_↔_}
 use mathlib.Core.Bool.{Bool, true, false, _&&_}

@@ -36,7 +36,7 @@ module _ {P : Type 0} where
   pub says-yes : P → Tests true P
   says-yes p = record { so = λ _. p; not = λ q. absurd (false≢true (sym q)) }
 
--- A CHILD that stands earlier has a level
+-- A CHILD that is held earlier has a level
 early-held : (K : Kind) (S : Store) (h i : ℕ) → length (nodes K S) ≡ i → h < handle-of K 0 i → T (is-held K S h)
 early-held K S h i e b = elim (small h) [
   | inl a ↦ rw (a .0) tt

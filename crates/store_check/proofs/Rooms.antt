@@ -31,7 +31,7 @@ all-zeros m s e i a h = sym (decided-true (zeros-say m s (e - s)) (λ j b. h (s 
 pub part-ends : (l c p n : ℕ) → p ≡ places-of l c → n ≤ p → (c * n ≤ c * p) × (c * p ≤ l)
 part-ends l c p n e h = let q : p ≤ l / c = omega arith in (mul-le-mul-left c h, omega (arith, mul-le-mul-left c q, mul-div-le l c))
 
--- a memory whose count stands at `at`, and whose nodes of c numbers begin at start
+-- a memory whose count is at `at`, and whose nodes of c numbers begin at start
 module _ (K : Kind) (m : List ℕ) (at start c : ℕ) (e : at ≡ count-at K) (a : start ≡ head K) (b : c ≡ arity K) where
   pub no-head : length m < start → false ≡ room? K m
   no-head l = sym (decided-false (room-says K m) (λ R. let h : head K ≤ length m = R .headed in omega (arith, a)))

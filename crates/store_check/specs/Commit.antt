@@ -11,7 +11,7 @@ use Rattle.memory.specs.declared.RunState.{RunState}
 abbrev pub cleared : ℕ → ℕ → List ℕ → List ℕ
 cleared s e m = putMid s (e - s) m (replicate (e - s) 0)
 
--- the count, which stands at `at`, is written where all fitted, else the places from n on that were written are zero again;
+-- the count, which is at `at`, is written where all fitted, else the places from n on that were written are zero again;
 -- nodes of c numbers begin at `start`
 pub record Committed (m m′ : List ℕ) (at start c n : ℕ) (r : RunState) : Type 0 where
   pub fitted : r .ok ≡ true → m′ ≡ put m at (r .n)

@@ -13,7 +13,7 @@ use Rattle.memory.specs.Working.{properties-in, Right}
 use Rattle.store_check.specs.Memory.{fields, Memories, memory, count, body, decode}
 use Rattle.store_check.specs.Valid.{Room, store?}
 
--- child d of the node at place i stands earlier, at level l
+-- child d of the node at place i is held earlier, at level l
 pub record ChildFits (K : Kind) (B : Store) (m : List ℕ) (i l d : ℕ) : Type 0 where
   pub earlier : getD m (arity K * i + d) 0 < handle-of K 0 i
   pub held : Held K (plain K B m i) l (getD m (arity K * i + d) 0)
@@ -31,7 +31,7 @@ pub record Tests (r : Bool) (P : Type 0) : Type 0 where
   pub so : r ≡ true → P
   pub not : r ≡ false → P → ⊥
 
--- each child of the node at place i stands earlier
+-- each child of the node at place i is held earlier
 abbrev pub Earlier : Kind → List ℕ → ℕ → Type 0
 Earlier K m i = (d : ℕ) → d < arity K → getD m (arity K * i + d) 0 < handle-of K 0 i
 

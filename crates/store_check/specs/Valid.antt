@@ -31,7 +31,7 @@ abbrev pub even? : Kind → List ℕ → Bool
 even? set x = eqb (sign x) 0
 even? rel x = true
 
--- the child h of a node at place i stands earlier, at level l
+-- the child h of a node at place i is held earlier, at level l
 abbrev pub child? : ℕ → Kind → Store → ℕ → ℕ → ℕ → Bool
 child? k K S i l h = ltb h (handle-of K 0 i) && eqb (level-of k K S h) l
 

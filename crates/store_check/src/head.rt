@@ -1,4 +1,4 @@
-// Where the numbers of a memory stand: its head first, then its nodes.
+// Where the numbers of a memory are: its head first, then its nodes.
 
 // The numbers of a relation memory before its nodes.
 pub const RELATION_HEAD: usize = 2;

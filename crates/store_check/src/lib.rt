@@ -15,7 +15,7 @@ pub mod head;
 pub mod reindex;
 mod room;
 
-// The handle of the node at place i; a child stands below it.
+// The handle of the node at place i; a child has a lower one.
 fn handle_at(c: usize, i: usize) -> usize
     requires { ⌜ i < 4096 ⌝ }
     ensures { λ r. ⌜ ((K : Kind) → c ≡ arity K → r ≡ handle-of K 0 i) ⌝ }
@@ -23,7 +23,7 @@ fn handle_at(c: usize, i: usize) -> usize
     if c == 2 { 2 * (i + 1) } else { i + 2 }
 }
 
-// Whether each child of node i stands earlier.
+// Whether each child of node i is held earlier.
 fn children_earlier(nodes: &[u32], c: usize, i: usize) -> bool
     requires { ⌜ (0 < c) × (c * i + c ≤ length (now nodes)) × (i < 4096) ⌝ }
     ensures { λ r. ⌜ ((K : Kind) → c ≡ arity K → Tests r (Earlier K (now (nodes .entry)) i)) ⌝ }

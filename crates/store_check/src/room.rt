@@ -25,7 +25,7 @@ fn zeros(m: &[u32], s: usize, e: usize) -> bool
     true
 }
 
-// Whether a memory whose nodes of c numbers begin at `start` has room for as many as its count says, which stands at `at`.
+// Whether a memory whose nodes of c numbers begin at `start` has room for as many as its count says, which is at `at`.
 fn has_room(m: &[u32], at: usize, start: usize, c: usize) -> bool
     requires { ⌜ (at < start) × (0 < c) ⌝ }
     ensures { λ r. ⌜ ((K : Kind) → at ≡ count-at K → start ≡ head K → c ≡ arity K → r ≡ room? K (now (m .entry))) ⌝ }

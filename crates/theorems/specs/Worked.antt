@@ -47,7 +47,7 @@ text-yields t h = (policy t, read (P.Handle h))
 abbrev pub text-refused : List ℕ → Fault → ℕ → Row
 text-refused t f i = (policy t, read (P.Declined (At f i)))
 
--- WHAT IS CLAIMED of a table: its calls, made one after the other on a relation memory of a numbers and a set memory of b, whatever stands in
+-- WHAT IS CLAIMED of a table: its calls, made one after the other on a relation memory of a numbers and a set memory of b, whatever is in
 -- them, have its answers
 abbrev pub TableRight : ℕ → ℕ → List Row → Type 0
 TableRight a b t =

@@ -1,4 +1,4 @@
--- `children_earlier` says whether each child of node i stands earlier: the loop keeps that those passed do.
+-- `children_earlier` says whether each child of node i is held earlier: the loop keeps that those passed do.
 use mathlib.Core.Path.{_≡_, sym, subst}
 use Prim.Native.Nat.{ℕ, _+_, _-_, _*_, _<_, _≤_}
 use native.Mathlib.Omega.{arith}

@@ -1,4 +1,4 @@
--- `read_numbers` by a loop: what was read stands before the rest of the line.
+-- `read_numbers` by a loop: what was read is before the rest of the line.
 use mathlib.Core.Path.{_≡_, refl, subst, _∙_}
 use mathlib.Core.Bool.{false≢true}
 use mathlib.Core.List.{List}
