@@ -21,7 +21,7 @@ pub const RELATIONS: usize = RELATION_HEAD + 4 * PLACES;
 // The numbers of set memory with so many.
 pub const SETS: usize = SET_HEAD + 2 * PLACES;
 
-// The numbers of working memory that are lent.
+// The numbers of working memory that are lent: the index, a property word a place, and a memo of 4,096 entries.
 const WORK: usize = 32768;
 
 // The most bytes that are listed.
@@ -30,7 +30,7 @@ const MOST: usize = 16384;
 // The bytes that are read: one more, so that a longer input is seen to be too long.
 pub const INPUT: usize = MOST + 1;
 
-// The bytes of the longest listing, 64 a line at most: a policy has a byte of the input at least, k and the counts have a line each.
+// The bytes of the longest listing, 64 a line: at most a line for each byte that is listed, and those of k and of the counts.
 pub const OUTPUT: usize = 64 * MOST + 128;
 
 // Writes the listing of a text to the start of `out`, on memories of 2,048 places of each kind, and answers its length.
