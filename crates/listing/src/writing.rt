@@ -30,7 +30,7 @@ fn put_number(out: &mut [u8], at: usize, s: &[u8], n: u64) -> usize
     put(out, from, &text[..k])
 }
 
-// `k K`.
+// The first line, `k` and the number of fields.
 pub(crate) fn first_line(out: &mut [u8], k: u32) -> usize
     requires { ⌜ 64 ≤ length (now out) ⌝ }
     ensures { λ r. ⌜ AddsFew 64 0 (first-line k) (now (out .entry)) (now (out .exit)) r ⌝ }
@@ -78,7 +78,7 @@ pub(crate) fn answer_line(out: &mut [u8], at: usize, i: usize, a: PolicyAnswer) 
     put(out, end, b"\n")
 }
 
-// `nodes n m`.
+// The last line, `nodes` and both counts.
 pub(crate) fn nodes_line(out: &mut [u8], at: usize, n: u32, m: u32) -> usize
     requires { ⌜ at + 64 ≤ length (now out) ⌝ }
     ensures { λ e. ⌜ AddsFew 64 at (nodes-line n m) (now (out .entry)) (now (out .exit)) e ⌝ }

@@ -45,7 +45,7 @@ row-agree c n m m′ e i h = from m′ ∙ ap (λ l. drop (c * i) (take (c * i +
     from : (m : List ℕ) → row c m i ≡ drop (c * i) (take (c * i + c) (take (c * n) m))
     from m = part (c * i) c m ∙ ap (drop (c * i)) (sym (take-take (c * i + c) (c * n) m (row-within c i n h)))
 
--- ROWS
+-- ROWS: nodes read one after the other
 module _ (node : ℕ → List ℕ) where
   from-length : (i n : ℕ) → length (nodes-from node i n) ≡ n
   from-length i zero = refl

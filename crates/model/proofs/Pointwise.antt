@@ -191,7 +191,7 @@ module _ {k : ℕ} where
       (λ S h. den-iff (λ ds D. (λ p. (p .0, elim (den-case B ds D) [ inl q ↦ q | inr q ↦ absurd (p .1 (q .1)) ]), λ p. (p .0, λ n. n (p .1)))))
       (difference-does set l a (signed 1 b) F i A (den-not F B))
 
--- XOR
+-- XOR: in exactly one of the two
 module _ {l : ℕ} {φ ψ : Sem} {S : Store} {h : ℕ} {K : Kind} where
   xor-left : ((ds : List ℕ) → Digits K l ds → ¬ ψ ds) → Den K l φ S h → Den K l (λ ds. OneOf (φ ds) (ψ ds)) S h
   xor-left f A = den-iff (λ ds D. (λ p. inl (p, f ds D), elim [ inl p ↦ p .0 | inr p ↦ absurd (f ds D (p .1)) ])) A

@@ -38,7 +38,7 @@ module _ {k : ℕ} where
       = λ i. relates-iff (λ p q P Q. (λ e. cc, λ e. cc)) (relates-ext E₂ D₁) in
       mk-relates l o z z o (λ p q. p ≡ q) F₂ i (one-of 0) (none-of 0 1 (omega arith)) (none-of 1 0 (omega arith)) (one-of 1)
 
--- STAR
+-- STAR: any finite number of steps
 module _ {k : ℕ} where
   star-short : (l : ℕ) (R : Rel) (S : Store) (x : ℕ) (node : Prog) → WellFormed k S → l ≤ k → Relates l R S x
       → (0 < l → Does k S node (Relates l (Ways l R))) → Does k S (star-op .short l x node) (Relates l (Ways l R))
@@ -93,7 +93,7 @@ module _ {k : ℕ} where
       sound : Sound1 k star-op Rel (λ l R S a. Relates l R S a) (λ l R S h. Relates l (Ways l R) S h)
       sound = record { held = λ l R S a A. A .held; short = star-short; kids = star-kids }
 
--- FLIP
+-- FLIP: input and output exchanged
 low-flip : {R : Rel} {S : Store} (l a : ℕ) → l ≡ 0 → Relates l R S a → Relates l (λ p q. R q p) S a
 low-flip (suc l) a e A = absurd (omega arith)
 low-flip {R} {S} zero a e A = record { held = A .held; means = means }

@@ -1,4 +1,4 @@
--- A text within the rules, built on checked memories, comes to its outcome: from what the build pass runs and what `commit` leaves.
+-- A text within the rules, built on checked memories, has its outcome: from what the build pass runs and what `commit` leaves.
 use mathlib.Core.Path.{_≡_, refl, sym, ap, _∙_}
 use mathlib.Core.Bool.{true, false}
 use mathlib.Core.List.{List}

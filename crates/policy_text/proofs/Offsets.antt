@@ -347,7 +347,7 @@ module _ {X : Lexicon} (laws : Lawful X) where
     whole-stops R K l (b ∷ back) e = ap (λ (x : ByteStep). onward x (λ z. scan X K z (i + 1) back) i)
         (stop-keeps K (R .state) b l (subst (λ (x : List ℕ). Ends 32 true (R .state) i x) e (R .ends)))
 
-    -- 7
+    -- refusal 7, not a policy
     pub not-policy : reads X t ≡ bad i → NotPolicy X t i
     unfolding Completable reads
     not-policy e =
@@ -382,7 +382,7 @@ module _ {X : Lexicon} (laws : Lawful X) where
           );
         }
 
-    -- 9
+    -- refusal 9, nested too deep
     pub too-deep : reads X t ≡ deep i → TooDeep X t i
     unfolding reads
     too-deep e = let R : Reached 32 false start 0 t i = reached 32 false t start 0 i (start-within 32) e in over-there R (R .back) refl

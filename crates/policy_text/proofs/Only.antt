@@ -69,7 +69,7 @@ module _ {X : Lexicon} (laws : Lawful X) where
       a .cannot (omega arith) 33 (subst (λ (k : ℕ). Completable X 33 (take (suc k) t)) (sym e) (b .deeper))
 
   module _ (k : ℕ) (B : Bounds X k) (t : List ℕ) where
-    -- 7
+    -- refusal 7, not a policy
     only-bad : (i : ℕ) → NotPolicy X t i → reading X k t ≡ Reading.NotPolicy i
     unfolding reading reading-of
     only-bad i a = by (reads X t) refl
@@ -79,7 +79,7 @@ module _ {X : Lexicon} (laws : Lawful X) where
         by (bad j) e = ap Reading.NotPolicy (one-place t j i (of-bad (not-policy laws t j e)) (of-bad a))
         by (deep j) e = absurd (never-both t i j a (too-deep laws t j e))
 
-    -- 9
+    -- refusal 9, nested too deep
     only-deep : (i : ℕ) → TooDeep X t i → reading X k t ≡ Reading.TooDeep i
     unfolding reading reading-of
     only-deep i a = by (reads X t) refl
@@ -93,7 +93,7 @@ module _ {X : Lexicon} (laws : Lawful X) where
     unfolding reading reading-of
     ruled p f g a x y = ap (reading-of X k t) (complete laws t p a) ∙ rw (x, y) refl
 
-    -- 5
+    -- refusal 5, a field that is not there
     first-field : (i : ℕ) → NoField X k t i → FirstAt (X .outside? k) t i
     first-field i a = record {
       inside = a .inside;
@@ -107,7 +107,7 @@ module _ {X : Lexicon} (laws : Lawful X) where
             let x = names-found laws k B (begins laws (a .follows) j (omega (arith, a .inside))) e in
             omega (arith, x .2, a .none-before j (x .0) h (x .1))
 
-    -- 8
+    -- refusal 8, `!` over a non-predicate
     first-negation : (i : ℕ) → NotPredicate X k t i → FirstAt (offends? X) t i
     first-negation i a = record {
       inside = a .inside;

@@ -14,7 +14,7 @@ use Rattle.policy_text.specs.declared.Reading.{Reading}
 use Rattle.policy_text.specs.declared.syntax.Read.{Read}
 
 module _ (X : Lexicon) (k : ℕ) (t : List ℕ) where
-  -- 7
+  -- refusal 7, not a policy
   pub bad-reading : (i : ℕ) (x : Read) → x ≡ read-of (length t) (reads X t) → x ≡ Read.Bad i → Reading.NotPolicy i ≡ reading X k t
   unfolding reading reading-of read-of
   bad-reading i x e f = by (reads X t) (sym e ∙ f)
@@ -24,7 +24,7 @@ module _ (X : Lexicon) (k : ℕ) (t : List ℕ) where
       by (bad j) h = cc
       by (deep j) h = absurd (let z : _≡_ {A = ℕ} 0 1 = cc in omega arith)
 
-  -- 9
+  -- refusal 9, nested too deep
   pub deep-reading : (i : ℕ) (x : Read) → x ≡ read-of (length t) (reads X t) → x ≡ Read.Deep i → Reading.TooDeep i ≡ reading X k t
   unfolding reading reading-of read-of
   deep-reading i x e f = by (reads X t) (sym e ∙ f)
@@ -45,12 +45,12 @@ module _ (X : Lexicon) (k : ℕ) (t : List ℕ) where
       by (bad j) h = absurd (let z : _≡_ {A = ℕ} 0 1 = cc in omega arith)
       by (deep j) h = absurd (let z : _≡_ {A = ℕ} 0 1 = cc in omega arith)
 
--- 5
+-- refusal 5, a field that is not there
 pub no-field-rules : (x f g : Found) (i : ℕ) → x ≡ f → x ≡ Found.At i → Reading.NoField i ≡ rules f g
 unfolding rules
 no-field-rules x f g i e h = rw (← e, h) refl
 
--- 8
+-- refusal 8, `!` over a non-predicate
 pub not-predicate-rules : (x y f g : Found) (i : ℕ) → x ≡ f → x ≡ Found.Nowhere → y ≡ g → y ≡ Found.At i → Reading.NotPredicate i ≡ rules f g
 unfolding rules
 not-predicate-rules x y f g i e h k l = rw (← e, h, ← k, l) refl

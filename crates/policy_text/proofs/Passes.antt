@@ -71,7 +71,7 @@ module _ (t : List ℕ) where
       → first P i (drop i t) ≡ first P (i + 1) (drop (i + 1) t)
   first-later P i h e = first-next P i h ∙ ap (λ (b : Bool). cond b (At i) (first P (i + 1) (drop (i + 1) t))) (sym e)
 
-  -- N
+  -- the number N of a field
   pub number-none : (at : ℕ) → at ≡ length t → 0 ≡ field-number (drop at t)
   unfolding field-number
   number-none at h = sym (ap field-number (none-left at h))

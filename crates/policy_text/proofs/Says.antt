@@ -63,7 +63,7 @@ module _ {X : Lexicon} (laws : Lawful X) where
   negated-found (bang {p = p} x) e = (p, x, not-true (predicate? p) (sym (negated-other x) ∙ e))
 
   module _ (k : ℕ) (B : Bounds X k) (t : List ℕ) (p : Policy) (a : Sum X 32 t p) where
-    -- 5
+    -- refusal 5, a field that is not there
     no-field : (i : ℕ) → FirstAt (X .outside? k) t i → NoField X k t i
     no-field i f =
         let x = names-found k B (begins laws a i (f .inside)) (f .here) in
@@ -78,7 +78,7 @@ module _ {X : Lexicon} (laws : Lawful X) where
           none-before = λ j n h y. leb-false k n (sym (names-above k B y) ∙ f .before j h);
         }
 
-    -- 8
+    -- refusal 8, `!` over a non-predicate
     not-predicate : (i : ℕ) → none (X .outside? k) t [] ≡ true → FirstAt (offends? X) t i → NotPredicate X k t i
     not-predicate i n f =
         let x = negated-found (begins laws a i (f .inside)) (f .here) in

@@ -84,7 +84,7 @@ mid-go (more m) sa pa n σ = go (inside m sa pa n σ)
 mid-go (whole p) sa pa n σ = go (post (negs n p) sa pa σ)
 mid-go not-mid sa pa n σ = stop
 
--- `)`
+-- a `)` closes the innermost parenthesis
 unfoldable pub close : Policy → Acc → Acc → List Frame → ByteStep
 close v sa pa [] = stop
 close v sa pa (paren sb pb n ∷ σ) = go (post (negs n (join-plus sa (join-seq pa v))) sb pb σ)

@@ -36,7 +36,7 @@ module _ (l a b : ℕ) where
       Reduces set (union set l a b) (union-tests set l a b (node2 (union-op set) l)) m w
   union-tested o h e n = no (no (by begin union-is) (same-says (ne-eqb a b h))) (same-says (ne-eqb a (signed 1 b) (λ q. n (q ∙ sym e))))
 
--- XOR
+-- XOR: what its program is, and its number in the memo
 module _ (l a b : ℕ) where
   pub xor-is : xor set l a b ≡ ask (same a b) (constant set 0 l) (xor-tests set l a b (node2 (xor-op set) l))
   unfolding xor op2

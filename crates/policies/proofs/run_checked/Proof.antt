@@ -1,4 +1,4 @@
--- `run-checked` comes to the text's outcome: refused by its length or its reading, or built.
+-- `run_checked` has the text's outcome: refused by its length or its reading, or built.
 use mathlib.Core.Path.{refl, sym, _∙_}
 use native.Mathlib.Omega.{arith}
 use lib.ListN.{length}

@@ -11,7 +11,7 @@ use Rattle.store_check.proofs.Whole.{no-heads, part-fits, sets-last, re
 use Rattle.store_check.proofs.is_store.Statement.{statement}
 use Rattle.store_check.proofs.is_store.Tie as tie
 
--- the heads fit where the nodes are judged
+-- the heads fit where the nodes are checked
 heads : (c : tie.Else1) → (let a = c .before .before .before .before .before .before .before .before .before .args in
     HeadsFit (memories (a .relations .now) (a .sets .now)))
 heads c = c .before .heads-fit .ensures .so (not-false _ (c .if1 .left))
