@@ -127,7 +127,8 @@ ended refuse M u = finishes (refuse UsedUp) (set-places M) (rel-places M) u (dec
 
 module _ {A : Type 0} (refuse : Refusal → A) (v : ℕ → Store → Verdict A) (M : Memories) where
   -- from whether the memories are a store
-  begins : (c : Check) → guard NotStore (store? M) (Level (fields M)) ≡ c → on-store refuse v M ≡ ended refuse M (unless-declined refuse c (λ k. v k (decode M)))
+  begins : (c : Check) → guard NotStore (store? M) (Level (fields M)) ≡ c
+      → on-store refuse v M ≡ ended refuse M (unless-declined refuse c (λ k. v k (decode M)))
   unfolding on-store
   begins c e = ap (λ c. ended refuse M (unless-declined refuse c (λ k. v k (decode M)))) e
 

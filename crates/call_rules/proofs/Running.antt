@@ -82,7 +82,8 @@ ready-turned K M w w′ n Y en X =
 -- A CHECK that says whether the call is declined
 module _ (M : Memories) (s : IsStore M) (check : ℕ → Store → Check) (r : Check) (G : ChecksIn (fields M) (decode M) (check (fields M)) r) where
   module _ {A : Type 0} (refuse : Refusal → A) where
-    pub check-no : (v : ℕ → Store → ℕ → Verdict A) (q : Refusal) → r ≡ No q → outcome (refuse q) M ≡ on-store refuse (λ k S. unless-declined refuse (check k S) (v k S)) M
+    pub check-no : (v : ℕ → Store → ℕ → Verdict A) (q : Refusal) → r ≡ No q
+        → outcome (refuse q) M ≡ on-store refuse (λ k S. unless-declined refuse (check k S) (v k S)) M
     check-no v q e = given refuse _ M s (refuse q) (ap (λ c. unless-declined refuse c (v (fields M) (decode M))) (G .says ∙ e))
 
     pub check-passed : (v : ℕ → Verdict A) (l : ℕ) → r ≡ Level l → unless-declined refuse (check (fields M) (decode M)) v ≡ v l

@@ -24,7 +24,8 @@ rel-places M = places-in rel (M .relations)
 -- 01: "1 not a store" covers both memories and comes first; the check of a store is the number of its fields
 unfoldable pub on-store : {A : Type 0} → (Refusal → A) → (ℕ → Store → Verdict A) → Memories → Outcome A Memories
 on-store refuse v M =
-    finishes (refuse UsedUp) (set-places M) (rel-places M) (unless-declined refuse (guard NotStore (store? M) (Level (fields M))) (λ k. v k (decode M))) (decode M) M
+    finishes (refuse UsedUp) (set-places M) (rel-places M) (unless-declined refuse (guard NotStore (store? M) (Level (fields M))) (λ k. v k (decode M)))
+    (decode M) M
     (λ S. encode (fields M) S M)
 
 -- 01, `new`: "1 if relation memory has fewer than 2 numbers or set memory none": a head is not there
@@ -37,4 +38,5 @@ new-declines k M = guard OutOfRange (leb k 32) (guard NotStore (heads? M) (Level
 
 unfoldable pub new-step : ℕ → Memories → Outcome Answer Memories
 new-step k M =
-    finishes (Declined UsedUp) (set-places M) (rel-places M) (unless-declined Declined (new-declines k M) (λ k. runs (new k) as-handle)) blank M (λ S. encode k S M)
+    finishes (Declined UsedUp) (set-places M) (rel-places M) (unless-declined Declined (new-declines k M) (λ k. runs (new k) as-handle)) blank M
+    (λ S. encode k S M)

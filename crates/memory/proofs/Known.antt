@@ -199,7 +199,8 @@ at-child : {K : Kind} {S : Store} {x : List ℕ} (h d v l : ℕ) → 0 < v → H
     → Has K S l (child K S h d) (properties-in v)
 at-child {K} {S} h d v l p A g i f = subst (λ x. Known K S (getD x d 0) v) (sym g) f p l (A .below d i)
 
-pub set-gathers : (W : Store → Type 0) (x : List ℕ) (v0 v1 r : ℕ) → KnowsProperties W set (getD x 0 0) v0 → KnowsProperties W set (getD x 1 0) v1 → 8 ≤ v0 → v1 / 8 ≡ v0 / 8
+pub set-gathers : (W : Store → Type 0) (x : List ℕ) (v0 v1 r : ℕ) → KnowsProperties W set (getD x 0 0) v0 → KnowsProperties W set (getD x 1 0) v1 → 8 ≤ v0
+    → v1 / 8 ≡ v0 / 8
     → (let p = in-both (properties-in v0) (properties-in v1) in 0 < r → properties-in r ≡ properties (p .empty) (p .universal) false (p .level + 1))
     → Gathers set W x r
 set-gathers W x v0 v1 r f0 f1 o e1 q = record {
@@ -219,7 +220,8 @@ set-gathers W x v0 v1 r f0 f1 o e1 q = record {
     pair (suc zero) i = inr refl
     pair (suc (suc d)) i = absurd (omega arith)
 
-pub relation-gathers : (W : Store → Type 0) (x : List ℕ) (v00 v01 v10 v11 r : ℕ) → KnowsProperties W rel (getD x 0 0) v00 → KnowsProperties W rel (getD x 1 0) v01
+pub relation-gathers : (W : Store → Type 0) (x : List ℕ) (v00 v01 v10 v11 r : ℕ) → KnowsProperties W rel (getD x 0 0) v00
+    → KnowsProperties W rel (getD x 1 0) v01
     → KnowsProperties W rel (getD x 2 0) v10 → KnowsProperties W rel (getD x 3 0) v11 → 8 ≤ v00 → v01 / 8 ≡ v00 / 8 → v10 / 8 ≡ v00 / 8 → v11 / 8 ≡ v00 / 8
     → (let on = in-both (properties-in v00) (properties-in v11) in let off = in-both (properties-in v01) (properties-in v10) in
     0 < r → properties-in r ≡ properties (on .empty && off .empty) (on .universal && off .universal) (on .identity && off .empty) (on .level + 1))

@@ -19,7 +19,8 @@ other-same rel m n b = λ i. record { sets = sym (b .read) i; rels = rows 4 n m 
 
 module _ {K : Kind} {o m w : List ℕ} {j : ℕ} where
   -- the children of h, of the other kind, are x
-  pub read-of-other : {p : Prog} {f : List ℕ → Prog} {h : ℕ} {x : List ℕ} → ReducesOn (OtherNodes K o j) K p (look (other K) h f) m w → ReadsChildren (other K) o h x
+  pub read-of-other : {p : Prog} {f : List ℕ → Prog} {h : ℕ} {x : List ℕ} → ReducesOn (OtherNodes K o j) K p (look (other K) h f) m w
+      → ReadsChildren (other K) o h x
       → ReducesOn (OtherNodes K o j) K p (f x) m w
   unfolding run Safe
   read-of-other {p} {f} {h} {x} u k = turn u (λ B c n l a R.

@@ -92,7 +92,8 @@ performs-remember {Q} {K} {p} {s} {r} {m} {m′} {w} {w₁} {w₂} op l a b e i 
 
 -- what is left is done and kept in the memo
 pub called-kept : {Q : Condition} {K : Kind} {p n : Prog} {s r q : RunState} {m m′ w w₁ w₂ : List ℕ} (op l a b : ℕ) → s .ok ≡ true → l < 256
-    → n ≡ memo-program op l a b → ReducesOn Q K p n m w → PerformsOn Q K n s m m′ w w₁ r → (q ≡ r) × Remembered r op l a b w₁ w₂ → PerformsOn Q K p s m m′ w w₂ q
+    → n ≡ memo-program op l a b → ReducesOn Q K p n m w → PerformsOn Q K n s m m′ w w₁ r → (q ≡ r) × Remembered r op l a b w₁ w₂
+    → PerformsOn Q K p s m m′ w w₂ q
 called-kept {Q} {K} {p} {s = s} {m = m} {m′ = m′} {w = w} {w₂ = w₂} op l a b ok i e u d k =
     subst (λ z. PerformsOn Q K p s m m′ w w₂ z) (sym (k .0)) (called ok u (performs-remember op l a b e i d (k .1)))
 
@@ -115,4 +116,5 @@ answer-recalled {Q} {K} {p} {node} {m} {w} {r} op l a b e u k = record { answers
         → looked-up p node (plain K B m n) z
     go B c n i s R (Answer h) f = recalled op l a b e u k f .left B c n i s R .runs
     go B c n i s R (Operands x y) f = let q = k .else x y f in
-        subst (λ x. ReducesTo p (node x y) (plain K B m n)) (sym (q .0)) (subst (λ y. ReducesTo p (node a y) (plain K B m n)) (sym (q .1)) (u .left B c n i s R))
+        subst (λ x. ReducesTo p (node x y) (plain K B m n)) (sym (q .0))
+        (subst (λ y. ReducesTo p (node a y) (plain K B m n)) (sym (q .1)) (u .left B c n i s R))

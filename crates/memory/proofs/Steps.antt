@@ -19,7 +19,8 @@ use Rattle.memory.specs.declared.RunState.{RunState}
 use Rattle.memory.specs.declared.Properties.{Properties}
 use Rattle.memory.specs.declared.Lookup.{Lookup}
 use Rattle.memory.specs.declared.Lookup.the-variants.{Answer, Operands}
-use Rattle.memory.specs.Performing.{run-state, Ready, ends, Writes, Runs, Condition, PerformsOn, Performs, ReducesTo, ReducesOn, looked-up, LooksUpOn, ReadsChildren, KnowsProperties}
+use Rattle.memory.specs.Performing.{run-state, Ready, ends, Writes, Runs, Condition, PerformsOn, Performs, ReducesTo, ReducesOn, looked-up, LooksUpOn}
+use Rattle.memory.specs.Performing.{ReadsChildren, KnowsProperties}
 use Rattle.memory.specs.Rows.{places, plain, places-of}
 use Rattle.memory.specs.Working.{Right}
 use Rattle.memory.proofs.Rows.{plain-length}
@@ -147,7 +148,8 @@ module _ {Q : Condition} {K : Kind} {p : Prog} {m w : List ℕ} where
   begin = record { left = λ B c n l a R. record { runs = refl; safe = a } }
 
   pub turn : {q q′ : Prog} → ReducesOn Q K p q m w
-      → ((B : Store) → Q B → (n : ℕ) → n ≤ places (arity K) m → Safe q (plain K B m n) → Right K B w m n → ReducesTo q q′ (plain K B m n)) → ReducesOn Q K p q′ m w
+      → ((B : Store) → Q B → (n : ℕ) → n ≤ places (arity K) m → Safe q (plain K B m n) → Right K B w m n → ReducesTo q q′ (plain K B m n))
+      → ReducesOn Q K p q′ m w
   turn u f = record {
     left = λ B c n l a R. let x = u .left B c n l a R in let y = f B c n l (x .safe) R in record { runs = x .runs ∙ y .runs; safe = y .safe };
   }
@@ -177,7 +179,8 @@ module _ {Q : Condition} {K : Kind} {p : Prog} {m w : List ℕ} where
   })
 
   -- RETURNS: all that is left is done by a call; a number is left; nothing can be left at level 0
-  pub called : {q : Prog} {s r : RunState} {m′ w′ : List ℕ} → s .ok ≡ true → ReducesOn Q K p q m w → PerformsOn Q K q s m m′ w w′ r → PerformsOn Q K p s m m′ w w′ r
+  pub called : {q : Prog} {s r : RunState} {m′ w′ : List ℕ} → s .ok ≡ true → ReducesOn Q K p q m w → PerformsOn Q K q s m m′ w w′ r
+      → PerformsOn Q K p s m m′ w w′ r
   unfolding ends
   called {s = s} ok u d = record {
     runs = λ B c R. let F = R .live ok in let a = u .left B c (s .n) (R .room) (F .safe) (F .work) in

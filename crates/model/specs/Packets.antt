@@ -16,7 +16,7 @@ Packet l p = Digits set l p
 
 -- PACKET NUMBERS. 01: "A packet of k fields is a number below 2^k; field 0 is its most significant bit."
 -- `packet l n` is the packet of l fields with the number n, `number` its inverse. The order of packets is no matter of their numbers and
--- goes by FieldOrder. OtherNodes the laws in proofs/Numbers, proofs/Walking of `outcomes` unfolds `packet`, for the loop of `relates`.
+-- goes by FieldOrder. Beside the laws in proofs/Numbers, proofs/Walking of `call_rules` unfolds `packet`, for the loop of `relates`.
 unfoldable pub packet : ℕ → ℕ → List ℕ
 packet zero n = []
 packet (suc l) n = n / 2 ^ l % 2 ∷ packet l n

@@ -37,7 +37,8 @@ module _ (k : ℕ) (M : Memories) where
   made = run (new k) blank .store
 
   by-check : (c : Check) → new-declines k M ≡ c
-      → new-step k M ≡ finishes (Declined UsedUp) (set-places M) (rel-places M) (unless-declined Declined c (λ k. runs (new k) as-handle)) blank M (λ S. encode k S M)
+      → new-step k M ≡ finishes (Declined UsedUp) (set-places M) (rel-places M) (unless-declined Declined c (λ k. runs (new k) as-handle)) blank M
+      (λ S. encode k S M)
   unfolding new-step
   by-check c e = ap (λ c. finishes (Declined UsedUp) (set-places M) (rel-places M) (unless-declined Declined c (λ k. runs (new k) as-handle)) blank M
       (λ S. encode k S M)) e

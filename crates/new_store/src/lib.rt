@@ -9,6 +9,7 @@ ghost use Rattle.store_check.specs.Memory.{memories};
 ghost use Rattle.call_rules.specs.Promise.{Meets};
 ghost use Rattle.call_rules.specs.OnMemories.{new-step};
 ghost use Rattle.new_store.specs.Creating.{set-constants, relation-constants, NewChecked, emptied, Begun, Created};
+use memory::RunState;
 use store_check::head::*;
 
 // The numbers of a working memory with an index and a small memo.
@@ -48,10 +49,10 @@ fn begin(memory: &mut [u32], at: usize, start: usize, c: usize)
 }
 
 // The sets' constants of level k, on no node.
-fn set_nodes(nodes: &mut [u32], work: &mut [u32], k: u8) -> memory::RunState
+fn set_nodes(nodes: &mut [u32], work: &mut [u32], k: u8) -> RunState
     ensures { λ r. ⌜ Performs set (set-constants k) (run-state true 0 0) (now (nodes .entry)) (now (nodes .exit)) (now (work .entry)) (now (work .exit)) r ⌝ }
 {
-    let s = memory::RunState {
+    let s = RunState {
         ok: true,
         n: 0,
         h: 0,
@@ -61,10 +62,11 @@ fn set_nodes(nodes: &mut [u32], work: &mut [u32], k: u8) -> memory::RunState
 }
 
 // The relations' constants of level k, on no node.
-fn relation_nodes(nodes: &mut [u32], work: &mut [u32], k: u8) -> memory::RunState
-    ensures { λ r. ⌜ Performs rel (relation-constants k) (run-state true 0 0) (now (nodes .entry)) (now (nodes .exit)) (now (work .entry)) (now (work .exit)) r ⌝ }
+fn relation_nodes(nodes: &mut [u32], work: &mut [u32], k: u8) -> RunState
+    ensures { λ r. ⌜ Performs rel (relation-constants k) (run-state true 0 0) (now (nodes .entry)) (now (nodes .exit)) (now (work .entry))
+        (now (work .exit)) r ⌝ }
 {
-    let s = memory::RunState {
+    let s = RunState {
         ok: true,
         n: 0,
         h: 0,

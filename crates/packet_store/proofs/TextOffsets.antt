@@ -63,7 +63,8 @@ module _ (t : List ℕ) (M : Memories) where
   step-short : offset (policy-step t M .answer) ≤ 4096
   unfolding policy-step on-store guard
   step-short = by-test (λ b. offset (finishes (refused UsedUp) (set-places M) (rel-places M)
-      (unless-declined refused (guard NotStore b (Level (fields M))) (λ k. text-verdict t k (decode M))) (decode M) M (λ S. encode (fields M) S M) .answer) ≤ 4096)
+      (unless-declined refused (guard NotStore b (Level (fields M))) (λ k. text-verdict t k (decode M))) (decode M) M (λ S. encode (fields M) S M) .answer)
+      ≤ 4096)
       (store? M)
       (λ _. finishes-offset (set-places M) (rel-places M) (decode M) M (λ S. encode (fields M) S M) _ (verdict-short (fields M) t (decode M)))
       (λ _. finishes-offset (set-places M) (rel-places M) (decode M) M (λ S. encode (fields M) S M) (gives (refused NotStore)) (omega arith))

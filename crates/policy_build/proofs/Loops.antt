@@ -102,7 +102,8 @@ module _ {G Item : Rank} {After Below : ℕ → Type 0} {b : ℕ} {join : Policy
     {t : List ℕ} {at : ℕ} {m₁ m₂ m₃ w₁ w₂ w₃ : List ℕ} {p q r : Built} (f : getD t (p .end) 0 ≡ b)
     (I : Builds Item Below k t (p .end + 1) (p .made) m₁ m₂ w₁ w₂ q) (P : Performs rel (op (p .made .h) (q .made .h)) (q .made) m₂ m₃ w₂ w₃ (r .made))
     (e : r .end ≡ q .end) where
-  joins-on : {s : RunState} {m w : List ℕ} → Looping G After b (joined join Item) k t at s m m₁ w w₁ p → Looping G After b (joined join Item) k t at s m m₃ w w₃ r
+  joins-on : {s : RunState} {m w : List ℕ} → Looping G After b (joined join Item) k t at s m m₁ w w₁ p
+      → Looping G After b (joined join Item) k t at s m m₃ w w₃ r
   joins-on B = record {
     from = omega (arith, B .from, I .from, e);
     within = omega (arith, I .within, e);
@@ -156,7 +157,14 @@ module _ {X : Lexicon} {k : ℕ} {t : List ℕ} {at : ℕ} {m₁ m₂ w₁ w₂ 
 
   pub loop-stars : {m₀ w₀ : List ℕ} {r₀ : Built} → StarCarried X k t at m₀ w₀ r₀ m₁ w₁ p → length m₂ ≡ length m₀ → length w₂ ≡ length w₀
       → StarCarried X k t at m₀ w₀ r₀ m₂ w₂ r
-  loop-stars C i v = record { from = omega (arith, C .from, e); within = omega (arith, l, e); long = i; work-length = v; on = λ s n u K. stars-on (C .on s n u K) }
+  loop-stars C i v = record {
+    from = omega (arith, C .from, e);
+    within = omega (arith, l, e);
+    long = i;
+    work-length = v;
+    on = λ s n u K. stars-on
+        (C .on s n u K);
+  }
 
 -- the programs of a product and a sum
 pub seq-program : (k : ℕ) (x y : Policy) → policy-program k (seq x y) ≡ (policy-program k x >>= λ p. policy-program k y >>= λ q. sequence k p q)

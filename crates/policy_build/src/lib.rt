@@ -5,24 +5,18 @@ ghost use lib.ListN.{length, getD};
 ghost use Rattle.policy_text.specs.XForms.{x-forms};
 ghost use Rattle.policy_text.specs.Grammar.{Atom, Starred, Product, Sum};
 ghost use Rattle.policy_build.specs.Building.{Builds, BuildsText, Named, after-atom, after-starred, after-product, after-sum};
+use memory::RunState;
 
 mod items;
 
 // What was built of a part of the text: the state of the run, with the part's handle, and the offset after the part.
 pub struct Built {
-    pub made: memory::RunState,
+    pub made: RunState,
     pub end: usize,
 }
 
 // A test or an assignment, after its `x`.
-fn named(
-    text: &[u8],
-    at: usize,
-    nodes: &mut [u32],
-    work: &mut [u32],
-    s: memory::RunState,
-    k: u8,
-) -> Built
+fn named(text: &[u8], at: usize, nodes: &mut [u32], work: &mut [u32], s: RunState, k: u8) -> Built
     requires { ⌜ at ≤ length (now text) ⌝ }
     ensures { λ r. ⌜ Builds Named after-atom k (now (text .entry)) at s
         (now (nodes .entry)) (now (nodes .exit)) (now (work .entry)) (now (work .exit)) r ⌝ }
@@ -44,14 +38,7 @@ fn named(
 }
 
 // `0`, `1`, a test or an assignment.
-fn leaf(
-    text: &[u8],
-    at: usize,
-    nodes: &mut [u32],
-    work: &mut [u32],
-    s: memory::RunState,
-    k: u8,
-) -> Built
+fn leaf(text: &[u8], at: usize, nodes: &mut [u32], work: &mut [u32], s: RunState, k: u8) -> Built
     requires { ⌜ (at ≤ length (now text)) × (¬ (getD (now text) at 0 ≡ 33)) × (¬ (getD (now text) at 0 ≡ 40)) ⌝ }
     ensures { λ r. ⌜ Builds (Atom x-forms) after-atom k (now (text .entry)) at s
         (now (nodes .entry)) (now (nodes .exit)) (now (work .entry)) (now (work .exit)) r ⌝ }
@@ -70,14 +57,7 @@ fn leaf(
 }
 
 // `!` and an atom, a sum in parentheses, or a leaf.
-fn atom(
-    text: &[u8],
-    at: usize,
-    nodes: &mut [u32],
-    work: &mut [u32],
-    s: memory::RunState,
-    k: u8,
-) -> Built
+fn atom(text: &[u8], at: usize, nodes: &mut [u32], work: &mut [u32], s: RunState, k: u8) -> Built
     requires { ⌜ at ≤ length (now text) ⌝ }
     ensures { λ r. ⌜ Builds (Atom x-forms) after-atom k (now (text .entry)) at s
         (now (nodes .entry)) (now (nodes .exit)) (now (work .entry)) (now (work .exit)) r ⌝ }
@@ -106,14 +86,7 @@ fn atom(
 }
 
 // An atom and its stars.
-fn starred(
-    text: &[u8],
-    at: usize,
-    nodes: &mut [u32],
-    work: &mut [u32],
-    s: memory::RunState,
-    k: u8,
-) -> Built
+fn starred(text: &[u8], at: usize, nodes: &mut [u32], work: &mut [u32], s: RunState, k: u8) -> Built
     requires { ⌜ at ≤ length (now text) ⌝ }
     ensures { λ r. ⌜ Builds (Starred x-forms) after-starred k (now (text .entry)) at s
         (now (nodes .entry)) (now (nodes .exit)) (now (work .entry)) (now (work .exit)) r ⌝ }
@@ -132,14 +105,7 @@ fn starred(
 }
 
 // Starred items joined by `;`.
-fn product(
-    text: &[u8],
-    at: usize,
-    nodes: &mut [u32],
-    work: &mut [u32],
-    s: memory::RunState,
-    k: u8,
-) -> Built
+fn product(text: &[u8], at: usize, nodes: &mut [u32], work: &mut [u32], s: RunState, k: u8) -> Built
     requires { ⌜ at ≤ length (now text) ⌝ }
     ensures { λ r. ⌜ Builds (Product x-forms) after-product k (now (text .entry)) at s
         (now (nodes .entry)) (now (nodes .exit)) (now (work .entry)) (now (work .exit)) r ⌝ }
@@ -160,14 +126,7 @@ fn product(
 }
 
 // Products joined by `+`.
-fn sum(
-    text: &[u8],
-    at: usize,
-    nodes: &mut [u32],
-    work: &mut [u32],
-    s: memory::RunState,
-    k: u8,
-) -> Built
+fn sum(text: &[u8], at: usize, nodes: &mut [u32], work: &mut [u32], s: RunState, k: u8) -> Built
     requires { ⌜ at ≤ length (now text) ⌝ }
     ensures { λ r. ⌜ Builds (Sum x-forms) after-sum k (now (text .entry)) at s
         (now (nodes .entry)) (now (nodes .exit)) (now (work .entry)) (now (work .exit)) r ⌝ }
@@ -188,13 +147,7 @@ fn sum(
 }
 
 // The policy of a checked text, built on the nodes of relations.
-pub fn build(
-    text: &[u8],
-    nodes: &mut [u32],
-    work: &mut [u32],
-    s: memory::RunState,
-    k: u8,
-) -> memory::RunState
+pub fn build(text: &[u8], nodes: &mut [u32], work: &mut [u32], s: RunState, k: u8) -> RunState
     ensures { λ r. ⌜ BuildsText x-forms k (now (text .entry)) s
         (now (nodes .entry)) (now (nodes .exit)) (now (work .entry)) (now (work .exit)) r ⌝ }
 {

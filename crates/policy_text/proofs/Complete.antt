@@ -130,7 +130,8 @@ module _ {X : Lexicon} (laws : Lawful X) where
     adv = λ L sa pa n σ at r h.
         let u = a .adv L (paren sa pa n ∷ σ) (at + 1) (41 ∷ r) (omega arith) in (
           u .3 + 1,
-          scan-cons L (need sa pa n σ) (need nothing nothing 0 (paren sa pa n ∷ σ)) at 40 ((s ++ (41 ∷ [])) ++ r) (simp (lt-ltb (n + nesting σ) L (omega arith)))
+          scan-cons L (need sa pa n σ) (need nothing nothing 0 (paren sa pa n ∷ σ)) at 40 ((s ++ (41 ∷ [])) ++ r)
+              (simp (lt-ltb (n + nesting σ) L (omega arith)))
               ∙ ap (λ (w : List ℕ). scan X L (need nothing nothing 0 (paren sa pa n ∷ σ)) (at + 1) w) (append-assoc s (41 ∷ []) r)
               ∙ u .5
               ∙ scan-cons L (post (u .2) (u .0) (u .1) (paren sa pa n ∷ σ)) (post (negs n p) sa pa σ) (u .3) 41 r

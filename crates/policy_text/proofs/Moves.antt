@@ -326,4 +326,5 @@ module _ (X : Lexicon) where
     whole-stops e a k =
         let u = a .3 nothing nothing [] refl in
         let l : e < length t = omega (arith, a .1) in
-        sym (ap (read-of (length t)) (whole-from (bad e) (u .3 ∙ scan-stop (post (u .2) (u .0) (u .1) []) e l (step-after-all (u .2) (u .0) (u .1) _ (a .2 l)))))
+        sym (ap (read-of (length t)) (whole-from (bad e)
+        (u .3 ∙ scan-stop (post (u .2) (u .0) (u .1) []) e l (step-after-all (u .2) (u .0) (u .1) _ (a .2 l)))))

@@ -215,7 +215,8 @@ module _ {X : Lexicon} (laws : Lawful X) where
   reached-end L true q at i w e = let h = final-bad q at i e in here L true q at [] i w h (ap (final q) (sym h) ∙ e)
   reached-end L false q at i w e = absurd (final-deep q at i e)
 
-  further : (L : ℕ) (k : Bool) (q q′ : State) (at b : ℕ) (s : List ℕ) (i : ℕ) → byte-step X L q b ≡ go q′ → Reached L k q′ (at + 1) s i → Reached L k q at (b ∷ s) i
+  further : (L : ℕ) (k : Bool) (q q′ : State) (at b : ℕ) (s : List ℕ) (i : ℕ) → byte-step X L q b ≡ go q′ → Reached L k q′ (at + 1) s i
+      → Reached L k q at (b ∷ s) i
   further L k q q′ at b s i e R = record {
     front = b ∷ R .front;
     back = R .back;
@@ -237,7 +238,8 @@ module _ {X : Lexicon} (laws : Lawful X) where
   reached L k [] q at i w e = reached-end L k q at i w e
   reached L k (b ∷ s) q at i w e = by k (byte-step X L q b) refl (stays L q b w) (λ q′ w′ e′. reached L k s q′ (at + 1) i w′ e′) e
     where
-      by : (k : Bool) (x : ByteStep) → byte-step X L q b ≡ x → Stays L x → ((q′ : State) → Within L q′ → scan X L q′ (at + 1) s ≡ halt k i → Reached L k q′ (at + 1) s i)
+      by : (k : Bool) (x : ByteStep) → byte-step X L q b ≡ x → Stays L x
+          → ((q′ : State) → Within L q′ → scan X L q′ (at + 1) s ≡ halt k i → Reached L k q′ (at + 1) s i)
           → onward x (λ z. scan X L z (at + 1) s) at ≡ halt k i → Reached L k q at (b ∷ s) i
       by k (go q′) h st f e = further L k q q′ at b s i h (f q′ st e)
       by true stop h st f e = here L true q at (b ∷ s) i w (halt-same true at i e) h

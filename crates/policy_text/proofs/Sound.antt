@@ -218,7 +218,8 @@ module _ {X : Lexicon} (laws : Lawful X) where
     rw (e, h) (simp append-assoc),
   )
 
-  good-post : (L : ℕ) (v : Policy) (sa pa : Acc) (σ : List Frame) (r : List ℕ) (b : ℕ) → Inv L (post v sa pa σ) r → Good L r b (byte-step X L (post v sa pa σ) b)
+  good-post : (L : ℕ) (v : Policy) (sa pa : Acc) (σ : List Frame) (r : List ℕ) (b : ℕ) → Inv L (post v sa pa σ) r
+      → Good L r b (byte-step X L (post v sa pa σ) b)
   unfolding byte-step bangs
   good-post L v sa pa σ r b i =
       let d = i .0 in

@@ -6,7 +6,8 @@ use Prim.Native.Nat.{ℕ}
 use lib.ListN.{replicate}
 use Rattle.model.specs.Policies.{Policy}
 use Rattle.policy_text.specs.XForms.{x-begins?, x-whole?, field-number, no-field?, x-forms}
-use Rattle.policy_text.specs.Machine.{scan, final, byte-step, onward, mid-step, mid-go, after-name, close, join-seq, join-plus, negs, nesting, leaf, reads}
+use Rattle.policy_text.specs.Machine.{scan, final, byte-step, onward, mid-step, mid-go, after-name, close, join-seq, join-plus, negs, nesting, leaf}
+use Rattle.policy_text.specs.Machine.{reads}
 use Rattle.policy_text.specs.Reading.{first, test?, open-after, clean-inside?, clean?, offends?, rules, reading-of, reading}
 use Rattle.policy_text.specs.Answers.{tree-of, tree}
 use Rattle.policy_text.specs.declared.Reading.{Reading}
@@ -40,7 +41,8 @@ table =
     ∷ []
 
 worked : map (λ c. reading x-forms (c .0) (c .1)) table ≡ map (λ c. c .2) table
-unfolding x-begins? x-whole? reading reading-of rules first field-number no-field? test? open-after clean-inside? clean? offends? reads scan final byte-step onward
+unfolding x-begins? x-whole? reading reading-of rules first field-number no-field? test? open-after clean-inside? clean? offends? reads scan final byte-step
+    onward
     mid-step mid-go
     after-name close join-seq join-plus negs nesting leaf
 worked = refl

@@ -3,16 +3,17 @@ ghost use Prim.Native.Nat.{ℕ};
 ghost use Rattle.model.specs.Store.{rel};
 ghost use Rattle.model.specs.Images.{ifwd, ibwd, diagonal};
 ghost use Rattle.memory.specs.Performing.{PerformsOn, OtherNodes};
+use memory::RunState;
 
 // The relation of every packet to those of a set.
 pub fn ifwd(
     sets: &[u32],
     relations: &mut [u32],
     work: &mut [u32],
-    s: memory::RunState,
+    s: RunState,
     level: u8,
     p: u32,
-) -> memory::RunState
+) -> RunState
     ensures { λ r. ⌜ ((j : ℕ) → PerformsOn (OtherNodes rel (now (sets .entry)) j) rel (ifwd level p) s
         (now (relations .entry)) (now (relations .exit)) (now (work .entry)) (now (work .exit)) r) ⌝ }
 {
@@ -42,10 +43,10 @@ pub fn ibwd(
     sets: &[u32],
     relations: &mut [u32],
     work: &mut [u32],
-    s: memory::RunState,
+    s: RunState,
     level: u8,
     p: u32,
-) -> memory::RunState
+) -> RunState
     ensures { λ r. ⌜ ((j : ℕ) → PerformsOn (OtherNodes rel (now (sets .entry)) j) rel (ibwd level p) s
         (now (relations .entry)) (now (relations .exit)) (now (work .entry)) (now (work .exit)) r) ⌝ }
 {
@@ -58,10 +59,10 @@ pub fn diagonal(
     sets: &[u32],
     relations: &mut [u32],
     work: &mut [u32],
-    s: memory::RunState,
+    s: RunState,
     level: u8,
     p: u32,
-) -> memory::RunState
+) -> RunState
     ensures { λ r. ⌜ ((j : ℕ) → PerformsOn (OtherNodes rel (now (sets .entry)) j) rel (diagonal level p) s
         (now (relations .entry)) (now (relations .exit)) (now (work .entry)) (now (work .exit)) r) ⌝ }
 {

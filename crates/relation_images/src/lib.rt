@@ -1,8 +1,9 @@
-// The operations between relations and sets that may add nodes, after spp.rs: each reads nodes of both kinds and runs its program of `nodes`.
+// The operations between relations and sets that may add nodes, after spp.rs: each reads nodes of both kinds and runs its program of `model`.
 ghost use Prim.Native.Nat.{ℕ};
 ghost use Rattle.model.specs.Store.{set};
 ghost use Rattle.model.specs.Images.{two-unions, fwd, bwd};
 ghost use Rattle.memory.specs.Performing.{Performs, PerformsOn, OtherNodes};
+use memory::RunState;
 
 pub mod filters;
 pub mod moves;
@@ -11,13 +12,13 @@ pub mod moves;
 fn two_unions(
     sets: &mut [u32],
     work: &mut [u32],
-    s: memory::RunState,
+    s: RunState,
     level: u8,
     a: u32,
     b: u32,
     c: u32,
     d: u32,
-) -> memory::RunState
+) -> RunState
     ensures { λ r. ⌜ Performs set (two-unions level a b c d) s (now (sets .entry)) (now (sets .exit)) (now (work .entry)) (now (work .exit)) r ⌝ }
 {
     let r0 = sets::union(sets, work, s, level, a, b);
@@ -30,10 +31,10 @@ pub fn fwd(
     relations: &[u32],
     sets: &mut [u32],
     work: &mut [u32],
-    s: memory::RunState,
+    s: RunState,
     level: u8,
     a: u32,
-) -> memory::RunState
+) -> RunState
     ensures { λ r. ⌜ ((j : ℕ) → PerformsOn (OtherNodes set (now (relations .entry)) j) set (fwd level a) s
         (now (sets .entry)) (now (sets .exit)) (now (work .entry)) (now (work .exit)) r) ⌝ }
 {
@@ -65,10 +66,10 @@ pub fn bwd(
     relations: &[u32],
     sets: &mut [u32],
     work: &mut [u32],
-    s: memory::RunState,
+    s: RunState,
     level: u8,
     a: u32,
-) -> memory::RunState
+) -> RunState
     ensures { λ r. ⌜ ((j : ℕ) → PerformsOn (OtherNodes set (now (relations .entry)) j) set (bwd level a) s
         (now (sets .entry)) (now (sets .exit)) (now (work .entry)) (now (work .exit)) r) ⌝ }
 {

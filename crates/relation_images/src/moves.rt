@@ -7,6 +7,7 @@ ghost use Rattle.model.specs.Images.{image-short, push, pull};
 ghost use Rattle.memory.specs.Performing.{PerformsOn, OtherNodes};
 ghost use Rattle.memory.specs.Memo.{memo-program, op-limit};
 ghost use Rattle.relation_images.specs.Moves.{ImageReduces};
+use memory::RunState;
 
 // What shortcuts know of an image: the answer, the empty or full set, that of the full set, or nothing.
 enum Image {
@@ -73,11 +74,11 @@ pub fn push(
     relations: &[u32],
     sets: &mut [u32],
     work: &mut [u32],
-    s: memory::RunState,
+    s: RunState,
     level: u8,
     p: u32,
     a: u32,
-) -> memory::RunState
+) -> RunState
     ensures { λ r. ⌜ ((j : ℕ) → PerformsOn (OtherNodes set (now (relations .entry)) j) set (push level p a) s
         (now (sets .entry)) (now (sets .exit)) (now (work .entry)) (now (work .exit)) r) ⌝ }
 {
@@ -112,11 +113,11 @@ pub fn pull(
     relations: &[u32],
     sets: &mut [u32],
     work: &mut [u32],
-    s: memory::RunState,
+    s: RunState,
     level: u8,
     a: u32,
     p: u32,
-) -> memory::RunState
+) -> RunState
     ensures { λ r. ⌜ ((j : ℕ) → PerformsOn (OtherNodes set (now (relations .entry)) j) set (pull level a p) s
         (now (sets .entry)) (now (sets .exit)) (now (work .entry)) (now (work .exit)) r) ⌝ }
 {

@@ -41,7 +41,8 @@ module _ (l p a : ℕ) where
   unfolding memo-program
   image-memo = refl
 
-  pub image-opened : {o m w : List ℕ} {j p0 p1 a00 a01 a10 a11 : ℕ} → (l ≡ 0 → ⊥) → ReadsChildren set m p (p0 ∷ p1 ∷ []) → ReadsChildren rel o a (a00 ∷ a01 ∷ a10 ∷ a11 ∷ [])
+  pub image-opened : {o m w : List ℕ} {j p0 p1 a00 a01 a10 a11 : ℕ} → (l ≡ 0 → ⊥) → ReadsChildren set m p (p0 ∷ p1 ∷ [])
+      → ReadsChildren rel o a (a00 ∷ a01 ∷ a10 ∷ a11 ∷ [])
       → ReducesOn (OtherNodes set o j) set (node2 has-image-op l p a) (or-else (has-image (l - 1) p0 a00) (or-else (has-image (l - 1) p0 a01)
       (or-else (has-image (l - 1) p1 a10) (has-image (l - 1) p1 a11)))) m w
   unfolding has-image

@@ -8,6 +8,7 @@ ghost use Rattle.model.specs.Images.{has-image, has-image-op, has-path};
 ghost use Rattle.memory.specs.Performing.{PerformsOn, OtherNodes, LooksUpOn, Remembered};
 ghost use Rattle.memory.specs.Memo.{op-has-path};
 ghost use Rattle.relation_paths.specs.Paths.{PathReduces};
+use memory::RunState;
 
 // The memo has no number for an output set from here on.
 const NO_NUMBER: u32 = memory::memo::OPERATIONS - memory::memo::HAS_PATH;
@@ -57,11 +58,11 @@ pub fn has_image(
     relations: &[u32],
     sets: &[u32],
     work: &mut [u32],
-    s: memory::RunState,
+    s: RunState,
     level: u8,
     p: u32,
     a: u32,
-) -> memory::RunState
+) -> RunState
     ensures { λ r. ⌜ ((j : ℕ) → PerformsOn (OtherNodes set (now (relations .entry)) j) set (has-image level p a) s
         (now (sets .entry)) (now (sets .entry)) (now (work .entry)) (now (work .exit)) r) ⌝ }
 {
@@ -141,14 +142,7 @@ fn has_path_tests(
 }
 
 // Keeps what was found of a path, where the memo has a number for it.
-fn keep_path(
-    work: &mut [u32],
-    r: memory::RunState,
-    level: u8,
-    p: u32,
-    a: u32,
-    q: u32,
-) -> memory::RunState
+fn keep_path(work: &mut [u32], r: RunState, level: u8, p: u32, a: u32, q: u32) -> RunState
     ensures { λ z. ⌜ (z ≡ r) × ((now (work .exit) ≡ now (work .entry)) ⊎ Remembered r (op-has-path + q) level p a (now (work .entry)) (now (work .exit))) ⌝ }
 {
     if q >= NO_NUMBER {
@@ -162,12 +156,12 @@ pub fn has_path(
     relations: &[u32],
     sets: &[u32],
     work: &mut [u32],
-    s: memory::RunState,
+    s: RunState,
     level: u8,
     p: u32,
     a: u32,
     q: u32,
-) -> memory::RunState
+) -> RunState
     ensures { λ r. ⌜ ((j : ℕ) → PerformsOn (OtherNodes set (now (relations .entry)) j) set (has-path level p a q) s
         (now (sets .entry)) (now (sets .entry)) (now (work .entry)) (now (work .exit)) r) ⌝ }
 {

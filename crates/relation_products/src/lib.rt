@@ -1,4 +1,4 @@
-// Products of relations, after spp.rs: `sequence`, `star`, `naive_forward` and `backward`. Each runs its program of `nodes` for every working memory.
+// Products of relations, after spp.rs: `sequence`, `star`, `naive_forward` and `backward`. Each runs its program of `model` for every working memory.
 ghost use mathlib.Core.Path.{_≡_};
 ghost use mathlib.Core.List.{List, [], _∷_};
 ghost use Prim.Native.Nat.{ℕ};
@@ -9,6 +9,7 @@ ghost use Rattle.model.specs.Relations.{sequence, sequence-op, star, star-op, n
 ghost use Rattle.memory.specs.Performing.{Performs, LooksUp};
 ghost use Rattle.relations.specs.Shortcuts.{TakesShortcut};
 ghost use Rattle.relation_products.specs.Products.{star-node};
+use memory::RunState;
 
 // What the properties of two relations, or the memo, know of their product.
 fn sequence_tests(nodes: &[u32], work: &[u32], level: u8, a: u32, b: u32) -> memory::Lookup
@@ -35,11 +36,11 @@ fn sequence_tests(nodes: &[u32], work: &[u32], level: u8, a: u32, b: u32) -> mem
 fn sums(
     nodes: &mut [u32],
     work: &mut [u32],
-    s: memory::RunState,
+    s: RunState,
     level: u8,
     p: relations::SPPnode,
     q: relations::SPPnode,
-) -> memory::RunState
+) -> RunState
     ensures { λ r. ⌜ Performs rel (each2 rel (union rel level) (p .x00 ∷ p .x01 ∷ p .x10 ∷ p .x11 ∷ []) (q .x00 ∷ q .x01 ∷ q .x10 ∷ q .x11 ∷ [])) s
         (now (nodes .entry)) (now (nodes .exit)) (now (work .entry)) (now (work .exit)) r ⌝ }
 {
@@ -53,11 +54,11 @@ fn sums(
 pub fn sequence(
     nodes: &mut [u32],
     work: &mut [u32],
-    s: memory::RunState,
+    s: RunState,
     level: u8,
     a: u32,
     b: u32,
-) -> memory::RunState
+) -> RunState
     ensures { λ r. ⌜ Performs rel (sequence level a b) s (now (nodes .entry)) (now (nodes .exit)) (now (work .entry)) (now (work .exit)) r ⌝ }
 {
     // a copy, made field by field: what is read below was not just written in other parts (docs/DECISIONS.md, Speed)
@@ -123,13 +124,13 @@ fn star_tests(nodes: &[u32], work: &[u32], level: u8, x: u32) -> relations::Shor
 fn star_node(
     nodes: &mut [u32],
     work: &mut [u32],
-    s: memory::RunState,
+    s: RunState,
     level: u8,
     res_a: u32,
     bd_star: u32,
     c: u32,
     d_star: u32,
-) -> memory::RunState
+) -> RunState
     ensures { λ r. ⌜ Performs rel (star-node level «res_a» «bd_star» c «d_star») s
         (now (nodes .entry)) (now (nodes .exit)) (now (work .entry)) (now (work .exit)) r ⌝ }
 {
@@ -141,13 +142,7 @@ fn star_node(
     relations::mk(nodes, work, res_d, res_a, res_b.h, res_c.h, res_d.h)
 }
 
-pub fn star(
-    nodes: &mut [u32],
-    work: &mut [u32],
-    s: memory::RunState,
-    level: u8,
-    x: u32,
-) -> memory::RunState
+pub fn star(nodes: &mut [u32], work: &mut [u32], s: RunState, level: u8, x: u32) -> RunState
     ensures { λ r. ⌜ Performs rel (star level x) s (now (nodes .entry)) (now (nodes .exit)) (now (work .entry)) (now (work .exit)) r ⌝ }
 {
     if !s.ok {
@@ -187,10 +182,10 @@ pub fn star(
 pub fn naive_forward(
     nodes: &mut [u32],
     work: &mut [u32],
-    s: memory::RunState,
+    s: RunState,
     level: u8,
     a: u32,
-) -> memory::RunState
+) -> RunState
     ensures { λ r. ⌜ Performs rel (naive-forward level a) s (now (nodes .entry)) (now (nodes .exit)) (now (work .entry)) (now (work .exit)) r ⌝ }
 {
     let top = relations::top_at_depth(nodes, work, s, level);
@@ -198,13 +193,7 @@ pub fn naive_forward(
 }
 
 // The relation of the inputs of a to every packet.
-pub fn backward(
-    nodes: &mut [u32],
-    work: &mut [u32],
-    s: memory::RunState,
-    level: u8,
-    a: u32,
-) -> memory::RunState
+pub fn backward(nodes: &mut [u32], work: &mut [u32], s: RunState, level: u8, a: u32) -> RunState
     ensures { λ r. ⌜ Performs rel (backward level a) s (now (nodes .entry)) (now (nodes .exit)) (now (work .entry)) (now (work .exit)) r ⌝ }
 {
     let top = relations::top_at_depth(nodes, work, s, level);

@@ -31,7 +31,8 @@ module _ {p : Prog} {other : ℕ → Prog} {node : ℕ → ℕ → Prog} {m w : 
   pub shortcut-delegate : {x : ℕ} → Reduces rel p (other x) m w → TakesShortcut p other node m w (Delegate x)
   shortcut-delegate u = record { goes = λ B n i s R. u .left B tt n i s R }
 
-  pub shortcut-lookup : {q : Prog} {f : Lookup} {r : Shortcut} → Reduces rel p q m w → LooksUp rel q node m w f → r ≡ shortcut-of f → TakesShortcut p other node m w r
+  pub shortcut-lookup : {q : Prog} {f : Lookup} {r : Shortcut} → Reduces rel p q m w → LooksUp rel q node m w f → r ≡ shortcut-of f
+      → TakesShortcut p other node m w r
   shortcut-lookup {f = f} u a e = record {
     goes = λ B n i s R. subst (λ z. by-shortcut p other node (plain rel B m n) z) (sym e) (go (plain rel B m n) f (answers-later u a .answers B tt n i s R));
   }

@@ -1,4 +1,4 @@
--- What the shortcuts of an operation on relations leave to do, where another operation may answer; and shortcuts without a name in `nodes`.
+-- What the shortcuts of an operation on relations leave to do, where another operation may answer; and shortcuts without a name in `model`.
 use mathlib.Core.Path.{_≡_}
 use mathlib.Core.List.{List}
 use Prim.Native.Nat.{ℕ, _≤_}

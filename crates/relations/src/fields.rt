@@ -10,6 +10,7 @@ ghost use Rattle.model.specs.Operations.{fields, test, assign};
 ghost use Rattle.memory.specs.Performing.{Performs};
 ghost use Rattle.memory.specs.Memo.{op-test, op-assign, op-limit};
 ghost use Rattle.relations.specs.Fields.{field-node};
+use memory::RunState;
 
 // The number of `assign` or of `test`.
 fn memo_number(assigns: bool) -> u32
@@ -33,14 +34,14 @@ fn bit(value: bool) -> u32
 fn field(
     nodes: &mut [u32],
     work: &mut [u32],
-    s: memory::RunState,
+    s: RunState,
     i: u8,
     var: u8,
     assigns: bool,
     value: bool,
     res: u32,
     zero: u32,
-) -> memory::RunState
+) -> RunState
     ensures { λ r. ⌜ Performs rel (Prog.mk rel (pick (eqb i var) (field-node assigns value res zero) (res ∷ zero ∷ zero ∷ res ∷ []))) s
         (now (nodes .entry)) (now (nodes .exit)) (now (work .entry)) (now (work .exit)) r ⌝ }
 {
@@ -63,14 +64,14 @@ fn field(
 fn fields(
     nodes: &mut [u32],
     work: &mut [u32],
-    s: memory::RunState,
+    s: RunState,
     n: u8,
     var: u8,
     assigns: bool,
     value: bool,
     res: u32,
     zero: u32,
-) -> memory::RunState
+) -> RunState
     ensures { λ r. ⌜ Performs rel (fields (field-node assigns value) var n res zero) s
         (now (nodes .entry)) (now (nodes .exit)) (now (work .entry)) (now (work .exit)) r ⌝ }
 {
@@ -87,12 +88,12 @@ fn fields(
 fn kept(
     nodes: &mut [u32],
     work: &mut [u32],
-    s: memory::RunState,
+    s: RunState,
     k: u8,
     var: u8,
     assigns: bool,
     value: bool,
-) -> memory::RunState
+) -> RunState
     ensures { λ r. ⌜ Performs rel (fields (field-node assigns value) var k 1 0) s
         (now (nodes .entry)) (now (nodes .exit)) (now (work .entry)) (now (work .exit)) r ⌝ }
 {
@@ -114,11 +115,11 @@ fn kept(
 pub fn test(
     nodes: &mut [u32],
     work: &mut [u32],
-    s: memory::RunState,
+    s: RunState,
     k: u8,
     var: u8,
     value: bool,
-) -> memory::RunState
+) -> RunState
     ensures { λ r. ⌜ Performs rel (test rel k var value) s (now (nodes .entry)) (now (nodes .exit)) (now (work .entry)) (now (work .exit)) r ⌝ }
 {
     kept(nodes, work, s, k, var, false, value)
@@ -128,11 +129,11 @@ pub fn test(
 pub fn assign(
     nodes: &mut [u32],
     work: &mut [u32],
-    s: memory::RunState,
+    s: RunState,
     k: u8,
     var: u8,
     value: bool,
-) -> memory::RunState
+) -> RunState
     ensures { λ r. ⌜ Performs rel (assign k var value) s (now (nodes .entry)) (now (nodes .exit)) (now (work .entry)) (now (work .exit)) r ⌝ }
 {
     kept(nodes, work, s, k, var, true, value)

@@ -1,4 +1,4 @@
-// Relations on packets, after spp.rs: operations on relation nodes in a lent slice. Each runs its program of `nodes` for every working memory.
+// Relations on packets, after spp.rs: operations on relation nodes in a lent slice. Each runs its program of `model` for every working memory.
 ghost use mathlib.Core.Path.{_≡_};
 ghost use mathlib.Core.List.{[], _∷_};
 ghost use Prim.Native.Nat.{_≤_};
@@ -8,6 +8,7 @@ ghost use Rattle.model.specs.Operations.{constant, identity-at-depth, is-zero, 
 ghost use Rattle.model.specs.Relations.{flip};
 ghost use Rattle.memory.specs.Performing.{Performs, ReadsChildren};
 ghost use Rattle.memory.specs.Noting.{LevelIs};
+use memory::RunState;
 
 pub mod fields;
 pub mod shortcuts;
@@ -47,17 +48,17 @@ pub fn get(nodes: &[u32], spp: u32) -> SPPnode
 pub fn mk(
     nodes: &mut [u32],
     work: &mut [u32],
-    s: memory::RunState,
+    s: RunState,
     x00: u32,
     x01: u32,
     x10: u32,
     x11: u32,
-) -> memory::RunState
+) -> RunState
     ensures { λ r. ⌜ Performs rel (Prog.mk rel (x00 ∷ x01 ∷ x10 ∷ x11 ∷ [])) s
         (now (nodes .entry)) (now (nodes .exit)) (now (work .entry)) (now (work .exit)) r ⌝ }
 {
     let r = memory::relation_node::join(nodes, work, s, x00, x01, x10, x11);
-    memory::RunState {
+    RunState {
         ok: r.ok,
         n: r.n,
         h: r.h + 2,
@@ -72,13 +73,7 @@ pub fn level(nodes: &[u32], k: u32, spp: u32) -> u32
 }
 
 // The relation of this level whose every walk ends at c.
-fn constant(
-    nodes: &mut [u32],
-    work: &mut [u32],
-    s: memory::RunState,
-    level: u8,
-    c: u32,
-) -> memory::RunState
+fn constant(nodes: &mut [u32], work: &mut [u32], s: RunState, level: u8, c: u32) -> RunState
     ensures { λ r. ⌜ Performs rel (constant rel c level) s (now (nodes .entry)) (now (nodes .exit)) (now (work .entry)) (now (work .exit)) r ⌝ }
 {
     if !s.ok {
@@ -96,24 +91,14 @@ fn constant(
     memory::memo::remember(work, r, memory::memo::CONSTANT, level, c, 0)
 }
 
-pub fn zero_at_depth(
-    nodes: &mut [u32],
-    work: &mut [u32],
-    s: memory::RunState,
-    level: u8,
-) -> memory::RunState
+pub fn zero_at_depth(nodes: &mut [u32], work: &mut [u32], s: RunState, level: u8) -> RunState
     ensures { λ r. ⌜ Performs rel (constant rel 0 level) s (now (nodes .entry)) (now (nodes .exit)) (now (work .entry)) (now (work .exit)) r ⌝ }
 {
     constant(nodes, work, s, level, 0)
 }
 
 // The identity of this level.
-pub fn one_at_depth(
-    nodes: &mut [u32],
-    work: &mut [u32],
-    s: memory::RunState,
-    level: u8,
-) -> memory::RunState
+pub fn one_at_depth(nodes: &mut [u32], work: &mut [u32], s: RunState, level: u8) -> RunState
     ensures { λ r. ⌜ Performs rel (identity-at-depth level) s (now (nodes .entry)) (now (nodes .exit)) (now (work .entry)) (now (work .exit)) r ⌝ }
 {
     if !s.ok {
@@ -132,12 +117,7 @@ pub fn one_at_depth(
     memory::memo::remember(work, r, memory::memo::IDENTITY, level, 0, 0)
 }
 
-pub fn top_at_depth(
-    nodes: &mut [u32],
-    work: &mut [u32],
-    s: memory::RunState,
-    level: u8,
-) -> memory::RunState
+pub fn top_at_depth(nodes: &mut [u32], work: &mut [u32], s: RunState, level: u8) -> RunState
     ensures { λ r. ⌜ Performs rel (constant rel 1 level) s (now (nodes .entry)) (now (nodes .exit)) (now (work .entry)) (now (work .exit)) r ⌝ }
 {
     constant(nodes, work, s, level, 1)
@@ -146,11 +126,11 @@ pub fn top_at_depth(
 pub fn union(
     nodes: &mut [u32],
     work: &mut [u32],
-    s: memory::RunState,
+    s: RunState,
     level: u8,
     a: u32,
     b: u32,
-) -> memory::RunState
+) -> RunState
     ensures { λ r. ⌜ Performs rel (union rel level a b) s (now (nodes .entry)) (now (nodes .exit)) (now (work .entry)) (now (work .exit)) r ⌝ }
 {
     // a copy, made field by field: what is read below was not just written in other parts (docs/DECISIONS.md, Speed)
@@ -199,11 +179,11 @@ pub fn union(
 pub fn intersect(
     nodes: &mut [u32],
     work: &mut [u32],
-    s: memory::RunState,
+    s: RunState,
     level: u8,
     a: u32,
     b: u32,
-) -> memory::RunState
+) -> RunState
     ensures { λ r. ⌜ Performs rel (intersect rel level a b) s (now (nodes .entry)) (now (nodes .exit)) (now (work .entry)) (now (work .exit)) r ⌝ }
 {
     if !s.ok {
@@ -247,14 +227,7 @@ pub fn intersect(
     }
 }
 
-pub fn xor(
-    nodes: &mut [u32],
-    work: &mut [u32],
-    s: memory::RunState,
-    level: u8,
-    a: u32,
-    b: u32,
-) -> memory::RunState
+pub fn xor(nodes: &mut [u32], work: &mut [u32], s: RunState, level: u8, a: u32, b: u32) -> RunState
     ensures { λ r. ⌜ Performs rel (xor rel level a b) s (now (nodes .entry)) (now (nodes .exit)) (now (work .entry)) (now (work .exit)) r ⌝ }
 {
     if !s.ok {
@@ -287,11 +260,11 @@ pub fn xor(
 pub fn difference(
     nodes: &mut [u32],
     work: &mut [u32],
-    s: memory::RunState,
+    s: RunState,
     level: u8,
     a: u32,
     b: u32,
-) -> memory::RunState
+) -> RunState
     ensures { λ r. ⌜ Performs rel (difference rel level a b) s (now (nodes .entry)) (now (nodes .exit)) (now (work .entry)) (now (work .exit)) r ⌝ }
 {
     if !s.ok {
@@ -321,13 +294,7 @@ pub fn difference(
     }
 }
 
-pub fn complement(
-    nodes: &mut [u32],
-    work: &mut [u32],
-    s: memory::RunState,
-    level: u8,
-    a: u32,
-) -> memory::RunState
+pub fn complement(nodes: &mut [u32], work: &mut [u32], s: RunState, level: u8, a: u32) -> RunState
     ensures { λ r. ⌜ Performs rel (complement rel level a) s (now (nodes .entry)) (now (nodes .exit)) (now (work .entry)) (now (work .exit)) r ⌝ }
 {
     if !s.ok {
@@ -354,13 +321,7 @@ pub fn complement(
 }
 
 // Whether a relation of this level is empty, 1 or 0.
-pub fn is_zero(
-    nodes: &[u32],
-    work: &[u32],
-    s: memory::RunState,
-    level: u8,
-    a: u32,
-) -> memory::RunState
+pub fn is_zero(nodes: &[u32], work: &[u32], s: RunState, level: u8, a: u32) -> RunState
     ensures { λ r. ⌜ Performs rel (is-zero rel level a) s (now (nodes .entry)) (now (nodes .entry)) (now (work .entry)) (now (work .entry)) r ⌝ }
 {
     if !s.ok {
@@ -373,13 +334,7 @@ pub fn is_zero(
     memory::insert::with_handle(s, 0)
 }
 
-pub fn flip(
-    nodes: &mut [u32],
-    work: &mut [u32],
-    s: memory::RunState,
-    level: u8,
-    a: u32,
-) -> memory::RunState
+pub fn flip(nodes: &mut [u32], work: &mut [u32], s: RunState, level: u8, a: u32) -> RunState
     ensures { λ r. ⌜ Performs rel (flip level a) s (now (nodes .entry)) (now (nodes .exit)) (now (work .entry)) (now (work .exit)) r ⌝ }
 {
     if !s.ok {

@@ -5,17 +5,18 @@ ghost use Rattle.model.specs.Store.{set};
 ghost use Rattle.model.specs.Operations.{raise, test};
 ghost use Rattle.model.specs.Sets.{ifelse};
 ghost use Rattle.memory.specs.Performing.{Performs};
+use memory::RunState;
 
 // The first set where field var is 1, else the second; both of this level, which is above the field.
 pub fn ifelse(
     nodes: &mut [u32],
     work: &mut [u32],
-    s: memory::RunState,
+    s: RunState,
     level: u8,
     var: u8,
     then_branch: u32,
     else_branch: u32,
-) -> memory::RunState
+) -> RunState
     ensures { λ r. ⌜ Performs set (ifelse level var «then_branch» «else_branch») s
         (now (nodes .entry)) (now (nodes .exit)) (now (work .entry)) (now (work .exit)) r ⌝ }
 {
@@ -43,7 +44,7 @@ pub fn ifelse(
 }
 
 // The set r .h with n more fields before its own.
-fn raise(nodes: &mut [u32], work: &mut [u32], r: memory::RunState, n: u8) -> memory::RunState
+fn raise(nodes: &mut [u32], work: &mut [u32], r: RunState, n: u8) -> RunState
     ensures { λ q. ⌜ Performs set (raise n (r .h)) r (now (nodes .entry)) (now (nodes .exit)) (now (work .entry)) (now (work .exit)) q ⌝ }
 {
     if n == 0 {
@@ -64,11 +65,11 @@ fn fields_after(k: u8, var: u8) -> u8
 pub fn test(
     nodes: &mut [u32],
     work: &mut [u32],
-    s: memory::RunState,
+    s: RunState,
     k: u8,
     var: u8,
     value: bool,
-) -> memory::RunState
+) -> RunState
     ensures { λ r. ⌜ Performs set (test set k var value) s (now (nodes .entry)) (now (nodes .exit)) (now (work .entry)) (now (work .exit)) r ⌝ }
 {
     let z = crate::zero_at_depth(nodes, work, s, fields_after(k, var));

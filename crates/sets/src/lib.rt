@@ -1,4 +1,4 @@
-// Sets of packets, after sp.rs: operations on set nodes in a lent slice. Each runs its program of `nodes` for every working memory.
+// Sets of packets, after sp.rs: operations on set nodes in a lent slice. Each runs its program of `model` for every working memory.
 ghost use mathlib.Core.Path.{_≡_};
 ghost use mathlib.Core.List.{List, [], _∷_};
 ghost use mathlib.Core.Bool.{Bool, true, false};
@@ -14,6 +14,7 @@ ghost use Rattle.memory.specs.Performing.{Performs, ReadsChildren, LooksUp};
 ghost use Rattle.memory.specs.Noting.{LevelIs};
 ghost use Rattle.memory.specs.Rows.{places, plain};
 ghost use Rattle.memory.specs.Working.{Words};
+use memory::RunState;
 
 pub mod fields;
 
@@ -36,18 +37,18 @@ pub fn get(nodes: &[u32], sp: u32) -> SPnode
 fn hold(
     nodes: &mut [u32],
     work: &mut [u32],
-    s: memory::RunState,
+    s: RunState,
     x0: u32,
     x1: u32,
     polarity: u32,
-) -> memory::RunState
+) -> RunState
     requires { ⌜ polarity < 2 ⌝ }
     ensures { λ r. ⌜ ((y : List ℕ) → x0 ∷ x1 ∷ [] ≡ stored set y → polarity ≡ sign y
         → Performs set (Prog.mk set y) s (now (nodes .entry)) (now (nodes .exit)) (now (work .entry)) (now (work .exit)) r) ⌝ }
 {
     let x = [x0, x1];
     let r = memory::insert::join(nodes, work, s, &x);
-    memory::RunState {
+    RunState {
         ok: r.ok,
         n: r.n,
         h: 2 * (r.h + 1) + polarity,
@@ -55,13 +56,7 @@ fn hold(
 }
 
 // The node held, else a new one.
-pub fn mk(
-    nodes: &mut [u32],
-    work: &mut [u32],
-    s: memory::RunState,
-    x0: u32,
-    x1: u32,
-) -> memory::RunState
+pub fn mk(nodes: &mut [u32], work: &mut [u32], s: RunState, x0: u32, x1: u32) -> RunState
     ensures { λ r. ⌜ Performs set (Prog.mk set (x0 ∷ x1 ∷ [])) s (now (nodes .entry)) (now (nodes .exit)) (now (work .entry)) (now (work .exit)) r ⌝ }
 {
     if x0 % 2 == 1 {
@@ -78,13 +73,7 @@ pub fn mk(
 }
 
 // The set of this level whose every walk ends at c.
-fn constant(
-    nodes: &mut [u32],
-    work: &mut [u32],
-    s: memory::RunState,
-    level: u8,
-    c: u32,
-) -> memory::RunState
+fn constant(nodes: &mut [u32], work: &mut [u32], s: RunState, level: u8, c: u32) -> RunState
     ensures { λ r. ⌜ Performs set (constant set c level) s (now (nodes .entry)) (now (nodes .exit)) (now (work .entry)) (now (work .exit)) r ⌝ }
 {
     if level == 0 {
@@ -94,23 +83,13 @@ fn constant(
     mk(nodes, work, z, z.h, z.h)
 }
 
-pub fn zero_at_depth(
-    nodes: &mut [u32],
-    work: &mut [u32],
-    s: memory::RunState,
-    level: u8,
-) -> memory::RunState
+pub fn zero_at_depth(nodes: &mut [u32], work: &mut [u32], s: RunState, level: u8) -> RunState
     ensures { λ r. ⌜ Performs set (constant set 0 level) s (now (nodes .entry)) (now (nodes .exit)) (now (work .entry)) (now (work .exit)) r ⌝ }
 {
     constant(nodes, work, s, level, 0)
 }
 
-pub fn one_at_depth(
-    nodes: &mut [u32],
-    work: &mut [u32],
-    s: memory::RunState,
-    level: u8,
-) -> memory::RunState
+pub fn one_at_depth(nodes: &mut [u32], work: &mut [u32], s: RunState, level: u8) -> RunState
     ensures { λ r. ⌜ Performs set (constant set 1 level) s (now (nodes .entry)) (now (nodes .exit)) (now (work .entry)) (now (work .exit)) r ⌝ }
 {
     constant(nodes, work, s, level, 1)
@@ -161,11 +140,11 @@ fn union_tests(nodes: &[u32], work: &[u32], level: u8, a: u32, b: u32) -> memory
 pub fn union(
     nodes: &mut [u32],
     work: &mut [u32],
-    s: memory::RunState,
+    s: RunState,
     level: u8,
     a: u32,
     b: u32,
-) -> memory::RunState
+) -> RunState
     ensures { λ r. ⌜ Performs set (union set level a b) s (now (nodes .entry)) (now (nodes .exit)) (now (work .entry)) (now (work .exit)) r ⌝ }
 {
     if !s.ok {
@@ -195,7 +174,7 @@ pub fn union(
 }
 
 // The other handle of a set.
-pub fn complement(s: memory::RunState, a: u32) -> memory::RunState
+pub fn complement(s: RunState, a: u32) -> RunState
     ensures { λ r. ⌜ ((l : ℕ) (m w : List ℕ) → Performs set (complement set l a) s m m w w r) ⌝ }
 {
     memory::insert::with_handle(s, memory::property_words::other(a))
@@ -204,11 +183,11 @@ pub fn complement(s: memory::RunState, a: u32) -> memory::RunState
 pub fn intersect(
     nodes: &mut [u32],
     work: &mut [u32],
-    s: memory::RunState,
+    s: RunState,
     level: u8,
     a: u32,
     b: u32,
-) -> memory::RunState
+) -> RunState
     ensures { λ r. ⌜ Performs set (intersect set level a b) s (now (nodes .entry)) (now (nodes .exit)) (now (work .entry)) (now (work .exit)) r ⌝ }
 {
     let r = union(
@@ -225,11 +204,11 @@ pub fn intersect(
 pub fn difference(
     nodes: &mut [u32],
     work: &mut [u32],
-    s: memory::RunState,
+    s: RunState,
     level: u8,
     a: u32,
     b: u32,
-) -> memory::RunState
+) -> RunState
     ensures { λ r. ⌜ Performs set (difference set level a b) s (now (nodes .entry)) (now (nodes .exit)) (now (work .entry)) (now (work .exit)) r ⌝ }
 {
     let r = union(nodes, work, s, level, memory::property_words::other(a), b);
@@ -261,14 +240,7 @@ fn xor_tests(nodes: &[u32], work: &[u32], level: u8, a: u32, b: u32) -> memory::
     memory::memo::recall(work, memory::memo::SET_XOR, level, a, b)
 }
 
-pub fn xor(
-    nodes: &mut [u32],
-    work: &mut [u32],
-    s: memory::RunState,
-    level: u8,
-    a: u32,
-    b: u32,
-) -> memory::RunState
+pub fn xor(nodes: &mut [u32], work: &mut [u32], s: RunState, level: u8, a: u32, b: u32) -> RunState
     ensures { λ r. ⌜ Performs set (xor set level a b) s (now (nodes .entry)) (now (nodes .exit)) (now (work .entry)) (now (work .exit)) r ⌝ }
 {
     if !s.ok {
@@ -295,13 +267,7 @@ pub fn xor(
 }
 
 // Whether a set of this level is empty, 1 or 0.
-pub fn is_zero(
-    nodes: &[u32],
-    work: &[u32],
-    s: memory::RunState,
-    level: u8,
-    a: u32,
-) -> memory::RunState
+pub fn is_zero(nodes: &[u32], work: &[u32], s: RunState, level: u8, a: u32) -> RunState
     ensures { λ r. ⌜ Performs set (is-zero set level a) s (now (nodes .entry)) (now (nodes .entry)) (now (work .entry)) (now (work .entry)) r ⌝ }
 {
     if !s.ok {
@@ -349,11 +315,11 @@ fn intersects_tests(nodes: &[u32], work: &[u32], level: u8, a: u32, b: u32) -> m
 pub fn intersects(
     nodes: &[u32],
     work: &mut [u32],
-    s: memory::RunState,
+    s: RunState,
     level: u8,
     a: u32,
     b: u32,
-) -> memory::RunState
+) -> RunState
     ensures { λ r. ⌜ Performs set (intersects level a b) s (now (nodes .entry)) (now (nodes .entry)) (now (work .entry)) (now (work .exit)) r ⌝ }
 {
     if !s.ok {

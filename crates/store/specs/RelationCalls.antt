@@ -8,7 +8,8 @@ use Rattle.model.specs.Programs.{Prog, mk}
 use Rattle.model.specs.Recursion.{x00, x01, x10, x11}
 use Rattle.model.specs.Operations.{zero-at-depth, one-at-depth, top-at-depth, union, intersect, xor, difference, complement, is-zero, test, assign}
 use Rattle.model.specs.Relations.{sequence, star, flip, naive-forward, backward}
-use Rattle.call_rules.specs.Outcome.{Verdict, gives, runs, unless-declined, as-handle, of-one, of-two, of-parent, of-four-children, of-field, of-packets, yes-no}
+use Rattle.call_rules.specs.Outcome.{Verdict, gives, runs, unless-declined, as-handle, of-one, of-two, of-parent, of-four-children, of-field, of-packets}
+use Rattle.call_rules.specs.Outcome.{yes-no}
 use Rattle.call_rules.specs.declared.Check.{Check}
 use Rattle.call_rules.specs.declared.Check.the-variants.{Level}
 use Rattle.call_rules.specs.declared.Answer.{Answer}

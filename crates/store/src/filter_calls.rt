@@ -9,6 +9,7 @@ ghost use Rattle.call_rules.specs.Promise.{Meets};
 ghost use Rattle.store.specs.Calls.{filter-call, step};
 ghost use Rattle.store.specs.ImageCalls.{filter-declines, filter-program};
 ghost use Rattle.call_rules.specs.Checking.{Checks, CheckedStore};
+use memory::RunState;
 use store_check::head::*;
 
 // A call with its argument, a set, after spp.rs.
@@ -34,10 +35,10 @@ fn perform(
     sets: &[u32],
     relations: &mut [u32],
     work: &mut [u32],
-    s: memory::RunState,
+    s: RunState,
     level: u8,
     call: FilterCall,
-) -> memory::RunState
+) -> RunState
     ensures { λ r. ⌜ ((j : ℕ) → PerformsOn (OtherNodes rel (now (sets .entry)) j) rel (filter-program level call) s
         (now (relations .entry)) (now (relations .exit)) (now (work .entry)) (now (work .exit)) r) ⌝ }
 {
@@ -73,7 +74,7 @@ fn run_checked(
     match check {
         call_rules::Check::No(r) => call_rules::Answer::Declined(r),
         call_rules::Check::Level(l) => {
-            let s = memory::RunState {
+            let s = RunState {
                 ok: true,
                 n: n,
                 h: 0,

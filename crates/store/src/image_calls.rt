@@ -9,6 +9,7 @@ ghost use Rattle.call_rules.specs.Promise.{Meets};
 ghost use Rattle.store.specs.Calls.{image-call, step};
 ghost use Rattle.store.specs.ImageCalls.{image-declines, image-program};
 ghost use Rattle.call_rules.specs.Checking.{ChecksBoth, CheckedStore};
+use memory::RunState;
 use store_check::head::*;
 
 // A call with its arguments, after spp.rs: `fwd` and `bwd` of a relation, `push` of a set through a relation, `pull` of a relation and a set.
@@ -43,10 +44,10 @@ fn perform(
     relations: &[u32],
     sets: &mut [u32],
     work: &mut [u32],
-    s: memory::RunState,
+    s: RunState,
     level: u8,
     call: ImageCall,
-) -> memory::RunState
+) -> RunState
     ensures { λ r. ⌜ ((j : ℕ) → PerformsOn (OtherNodes set (now (relations .entry)) j) set (image-program level call) s
         (now (sets .entry)) (now (sets .exit)) (now (work .entry)) (now (work .exit)) r) ⌝ }
 {
@@ -99,7 +100,7 @@ fn run_checked(
     match check {
         call_rules::Check::No(r) => call_rules::Answer::Declined(r),
         call_rules::Check::Level(l) => {
-            let s = memory::RunState {
+            let s = RunState {
                 ok: true,
                 n: m,
                 h: 0,

@@ -9,6 +9,7 @@ ghost use Rattle.store.specs.Calls.{relation-call, step};
 ghost use Rattle.store.specs.RelationCalls.{relation-declines, relation-program};
 ghost use Rattle.call_rules.specs.Checking.{Checks, CheckedStore};
 ghost use Rattle.store.specs.RelationChecking.{RelationFieldFits};
+use memory::RunState;
 use store_check::head::*;
 
 // A call with its arguments, after spp.rs: handles, and for `test` and `assign` a field first; a value is 0 or 1.
@@ -68,11 +69,11 @@ fn check(nodes: &[u32], n: usize, k: u32, call: RelationCall) -> call_rules::Che
 fn perform(
     nodes: &mut [u32],
     work: &mut [u32],
-    s: memory::RunState,
+    s: RunState,
     k: u8,
     level: u8,
     call: RelationCall,
-) -> memory::RunState
+) -> RunState
     requires { ⌜ RelationFieldFits call ⌝ }
     ensures { λ r. ⌜ Performs rel (relation-program k level call) s
         (now (nodes .entry)) (now (nodes .exit)) (now (work .entry)) (now (work .exit)) r ⌝ }
@@ -128,7 +129,7 @@ fn run_checked(
     match check {
         call_rules::Check::No(r) => call_rules::Answer::Declined(r),
         call_rules::Check::Level(l) => {
-            let s = memory::RunState {
+            let s = RunState {
                 ok: true,
                 n: n,
                 h: 0,

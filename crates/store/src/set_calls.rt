@@ -9,6 +9,7 @@ ghost use Rattle.store.specs.Calls.{set-call, step};
 ghost use Rattle.store.specs.SetCalls.{set-declines, set-program};
 ghost use Rattle.call_rules.specs.Checking.{Checks, CheckedStore};
 ghost use Rattle.store.specs.SetChecking.{SetFieldFits};
+use memory::RunState;
 use store_check::head::*;
 
 // A call with its arguments, after sp.rs: handles, and for `test` and `ifelse` a field first; a value is 0 or 1.
@@ -45,11 +46,11 @@ fn check(nodes: &[u32], n: usize, k: u32, call: SetCall) -> call_rules::Check
 fn perform(
     nodes: &mut [u32],
     work: &mut [u32],
-    s: memory::RunState,
+    s: RunState,
     k: u8,
     level: u8,
     call: SetCall,
-) -> memory::RunState
+) -> RunState
     requires { ⌜ SetFieldFits call ⌝ }
     ensures { λ r. ⌜ Performs set (set-program k level call) s (now (nodes .entry)) (now (nodes .exit)) (now (work .entry)) (now (work .exit)) r ⌝ }
 {
@@ -98,7 +99,7 @@ fn run_checked(
     match check {
         call_rules::Check::No(r) => call_rules::Answer::Declined(r),
         call_rules::Check::Level(l) => {
-            let s = memory::RunState {
+            let s = RunState {
                 ok: true,
                 n: n,
                 h: 0,

@@ -49,11 +49,13 @@ module _ (check : ℕ → Store → Check) (program : ℕ → ℕ → Prog) (M :
   abbrev pub verdict : ℕ → Store → Verdict Answer
   verdict k S = unless-declined Declined (check k S) (λ l. runs (program k l) as-handle)
 
-  by-check : (c : Check) → check (fields M) (decode M) ≡ c → (let t = ended Declined M (unless-declined Declined c (λ l. runs (program (fields M) l) as-handle)) in
+  by-check : (c : Check) → check (fields M) (decode M) ≡ c
+      → (let t = ended Declined M (unless-declined Declined c (λ l. runs (program (fields M) l) as-handle)) in
       t .answer ≡ Handle h → Q (decode (t .state)) h)
   unfolding finishes
   by-check (Level l) e q = let D = does l e in let p = program (fields M) l in
-      by-test (λ b. (let t = pick b (outcome (Handle (run p (decode M) .value)) (encode (fields M) (run p (decode M) .store) M)) (outcome (Declined UsedUp) M) in
+      by-test (λ b. (let t = pick b (outcome (Handle (run p (decode M) .value)) (encode (fields M) (run p (decode M) .store) M))
+      (outcome (Declined UsedUp) M) in
       t .answer ≡ Handle h → Q (decode (t .state)) h)) (fits-places (set-places M) (rel-places M) (run p (decode M) .store))
       (λ t f. subst (λ S. Q S h) (sym (decode-encode M (fields M) (D .after .formed))) (subst (Q (run p (decode M) .store)) (ap handle f) (D .after .post)))
       (λ t f. absurd (subst Given (sym f) tt)) q

@@ -47,7 +47,8 @@ module _ {C A : Type 0} (Z : Calling C A) (right : (M₀ M : Memories) (P : Plai
       list-matches = turn-kept (answer-of on) (left-by on) (answer-of other-nodes) (left-by other-nodes) (Matches M₀) kept cs M P m
 
       list-goes : AllContinue Z cs M → ContinuesTo P (ended .state)
-      list-goes r = turn-goes (answer-of on) (left-by on) (answer-of other-nodes) (left-by other-nodes) (Matches M₀) kept (Z .Continues) ContinuesTo goes-none goes-then
+      list-goes r = turn-goes (answer-of on) (left-by on) (answer-of other-nodes) (left-by other-nodes) (Matches M₀) kept (Z .Continues) ContinuesTo
+          goes-none goes-then
           (λ c M P m. right M₀ M P m c .continues) cs M P m r
 
       list-lasts : AllContinue Z cs M → HandlesLast (decode M) (decode (steps Z cs M .state))

@@ -114,7 +114,8 @@ refused-stays m n (Level l) p S x put R = let T = run (p l) S in
 
 -- THE SAME ANSWER, AND THEY MATCH AGAIN
 -- also as an answer of another type
-pub map-answer-alike : {A B : Type 0} {M₀ : Memories} {t : Outcome A Memories} {u : Outcome A Plain} (f : A → B) → Alike M₀ t u → Alike M₀ (map-answer f t) (map-answer f u)
+pub map-answer-alike : {A B : Type 0} {M₀ : Memories} {t : Outcome A Memories} {u : Outcome A Plain} (f : A → B) → Alike M₀ t u
+    → Alike M₀ (map-answer f t) (map-answer f u)
 map-answer-alike f a = record { answer = ap f (a .answer); matches = a .matches }
 
 -- a store that fits the places of M₀

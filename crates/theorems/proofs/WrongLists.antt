@@ -37,7 +37,8 @@ kept-nodes {M₀} {M} P v p e q A =
     let n = rel-places M₀ in
     let S = run p (P .lists) .store in
     let t : T (fits-places m n S) = fits-places-iff m n S .1 (matches-space A .within set, matches-space A .within rel) in
-    by-test (λ b. T b → pick b (outcome (Handle (run p (P .lists) .value)) (plain-store (P .width) S)) (outcome (Declined UsedUp) P) .answer ≡ Declined UsedUp → ⊥)
+    by-test (λ b. T b → pick b (outcome (Handle (run p (P .lists) .value)) (plain-store (P .width) S)) (outcome (Declined UsedUp) P) .answer ≡ Declined
+    UsedUp → ⊥)
     (fits-places m n S) (λ _ _ q. not-handle (sym q)) (λ _ t q. t) t
     (ap (λ u. finishes (Declined UsedUp) m n u (P .lists) P (plain-store (P .width)) .answer) (sym e) ∙ q)
 

@@ -10,9 +10,9 @@ use Rattle.listing.proofs.list.Tie as tie
 
 returns : tie.Need-returns
 returns c =
-    let c6 = c .before .before .before .before .before .before in
-    counted _ (c6 .args .n) _ _ (c6 .args .input .now) (search needs) (omega (arith, c .put .ensures .end)) (c .put .ensures .text)
-    (listing-long _ (omega (arith, length-take-le (c6 .args .n) (c6 .args .input .now) (c6 .pre))))
+    let entry = c .before .before .before .before .before .before in
+    counted _ (entry .args .n) _ _ (entry .args .input .now) (search needs) (omega (arith, c .put .ensures .end)) (c .put .ensures .text)
+    (listing-long _ (omega (arith, length-take-le (entry .args .n) (entry .args .input .now) (entry .pre))))
 
 slice-aggregate-text : tie.Need-slice-aggregate-text
 slice-aggregate-text c =
@@ -24,37 +24,41 @@ slice-aggregate-read c =
 
 add-write : tie.Need-add-write
 add-write c =
-    let c5 = c .before .before .before .before .before in
-    let c10 = c5 .before .before .before .before .before in
-    omega (arith, c5 .find .ensures .1, length-take-le (c10 .args .n) (c10 .args .input .now) (c10 .pre))
+    let after-find = c .before .before .before .before .before in
+    let entry = after-find .before .before .before .before .before in
+    omega (arith, after-find .find .ensures .1, length-take-le (entry .args .n) (entry .args .input .now) (entry .pre))
 
 write-requires : tie.Need-write-requires
 write-requires c κs =
-    let c9 = c .before .before .before .before .before .before .before .before .before in
-    let c14 = c9 .before .before .before .before .before in
-    (omega arith, omega (arith, c9 .find .ensures .1, length-take-le (c14 .args .n) (c14 .args .input .now) (c14 .pre)), search needs, search needs)
+    let after-find = c .before .before .before .before .before .before .before .before .before in
+    let entry = after-find .before .before .before .before .before in (
+      omega arith,
+      omega (arith, after-find .find .ensures .1, length-take-le (entry .args .n) (entry .args .input .now) (entry .pre)),
+      search needs,
+      search needs,
+    )
 
 returns-2 : tie.Need-returns-2
 unfolding listed
 returns-2 c =
-    let c3 = c .before .before .before in
-    let c5 = c3 .before .before in
-    let c7 = c5 .before .before in
-    let c12 = c7 .before .before .before .before .before in
-    counted _ (c12 .args .n) _ _ (c12 .args .input .now) (search needs) (omega (arith, c .put2 .ensures .end)) (c .put2 .ensures .text)
-    (listing-of _ _ _ _ (omega (arith, length-take-le (c12 .args .n) (c12 .args .input .now) (c12 .pre)))
-    (c7 .find .ensures .0) (c5 .read .ensures) (c3 .enum-told .given .1))
+    let after-enum-told = c .before .before .before in
+    let after-read = after-enum-told .before .before in
+    let after-find = after-read .before .before in
+    let entry = after-find .before .before .before .before .before in
+    counted _ (entry .args .n) _ _ (entry .args .input .now) (search needs) (omega (arith, c .put2 .ensures .end)) (c .put2 .ensures .text)
+    (listing-of _ _ _ _ (omega (arith, length-take-le (entry .args .n) (entry .args .input .now) (entry .pre)))
+    (after-find .find .ensures .0) (after-read .read .ensures) (after-enum-told .enum-told .given .1))
 
 returns-3 : tie.Need-returns-3
 returns-3 c =
-    let c8 = c .before .before .before .before .before .before .before .before in
-    let c10 = c8 .before .before in
-    let c12 = c10 .before .before in
-    let c17 = c12 .before .before .before .before .before in
+    let after-width = c .before .before .before .before .before .before .before .before in
+    let after-read = after-width .before .before in
+    let after-find = after-read .before .before in
+    let entry = after-find .before .before .before .before .before in
     let w = c .before .before .write in
-    counted _ (c17 .args .n) _ _ (c17 .args .input .now) (search needs) (omega (arith, w .ensures .0, w .kept .1 .1 .1 .1 .1 .1 .0))
-    (w .ensures .1) (listing-of _ _ _ _ (omega (arith, length-take-le (c17 .args .n) (c17 .args .input .now) (c17 .pre)))
-    (c12 .find .ensures .0) (c10 .read .ensures) (c8 .width .given .1))
+    counted _ (entry .args .n) _ _ (entry .args .input .now) (search needs) (omega (arith, w .ensures .0, w .kept .1 .1 .1 .1 .1 .1 .0))
+    (w .ensures .1) (listing-of _ _ _ _ (omega (arith, length-take-le (entry .args .n) (entry .args .input .now) (entry .pre)))
+    (after-find .find .ensures .0) (after-read .read .ensures) (after-width .width .given .1))
 
 pub list-spec : {M : Type 1} → statement M
 list-spec =

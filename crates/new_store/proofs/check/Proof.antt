@@ -17,35 +17,35 @@ returns-3 c = λ M e f. short-sets _ _ _ M e f (c .before .before .if1 .left) (c
 
 returns-4 : tie.Need-returns-4
 returns-4 c =
-    let c3 = c .before .before .before in
-    let c4 = c3 .before in
-    let c5 = c4 .before in
-    λ M e f. full-relations _ _ _ M e f (c5 .if1 .left) (c4 .if2 .left) (c3 .if3 .left) _ _ (c .before .before .as-index .ensures)
+    let at-if3 = c .before .before .before in
+    let at-if2 = at-if3 .before in
+    let at-if1 = at-if2 .before in
+    λ M e f. full-relations _ _ _ M e f (at-if1 .if1 .left) (at-if2 .if2 .left) (at-if3 .if3 .left) _ _ (c .before .before .as-index .ensures)
     (c .before .places-of .ensures) (c .if4 .taken)
 
 returns-5 : tie.Need-returns-5
 returns-5 c =
-    let c4 = c .before .before .before .before in
-    let c5 = c4 .before in
-    let c6 = c5 .before in
-    let c7 = c6 .before in
-    λ M e f. full-sets _ _ _ M e f (c7 .if1 .left) (c6 .if2 .left) (c5 .if3 .left) _ _ (c4 .as-index .ensures) (c .before .places-of2 .ensures)
-    (c .if5 .taken)
+    let after-as-index = c .before .before .before .before in
+    let at-if3 = after-as-index .before in
+    let at-if2 = at-if3 .before in
+    let at-if1 = at-if2 .before in
+    λ M e f. full-sets _ _ _ M e f (at-if1 .if1 .left) (at-if2 .if2 .left) (at-if3 .if3 .left) _ _ (after-as-index .as-index .ensures)
+    (c .before .places-of2 .ensures) (c .if5 .taken)
 
 returns-6 : tie.Need-returns-6
 returns-6 c =
-    let c3 = c .before .before .before in
-    let c4 = c3 .before in
-    let c5 = c4 .before in
-    let c6 = c5 .before in
-    let c7 = c6 .before in (
+    let after-places-of = c .before .before .before in
+    let after-as-index = after-places-of .before in
+    let at-if3 = after-as-index .before in
+    let at-if2 = at-if3 .before in
+    let at-if1 = at-if2 .before in (
       refl,
-      c7 .if1 .left,
-      c6 .if2 .left,
-      c5 .if3 .left,
-      omega (arith, c .before .before .if4 .left, c4 .as-index .ensures, c3 .places-of .ensures),
+      at-if1 .if1 .left,
+      at-if2 .if2 .left,
+      at-if3 .if3 .left,
+      omega (arith, c .before .before .if4 .left, after-as-index .as-index .ensures, after-places-of .places-of .ensures),
       omega
-          (arith, c .if5 .left, c4 .as-index .ensures, c .before .places-of2 .ensures),
+          (arith, c .if5 .left, after-as-index .as-index .ensures, c .before .places-of2 .ensures),
     )
 
 pub check-spec : {M : Type 1} → statement M

@@ -14,28 +14,26 @@ within c = ⊎-elim (λ w. omega (arith, w .0 .taken, w .1)) (λ w. omega (arith
 
 fill-requires : tie.Need-fill-requires
 fill-requires c κs =
-    let c4 = c .before .before .before .before in
-    let c8 = c4 .before .before .before .before in
-    let c4 = c4 in
-    let b = c8 .pre in
+    let after-if1 = c .before .before .before .before in
+    let entry = after-if1 .before .before .before .before in
+    let b = entry .pre in
     record {
       store = b .store;
       width = b .width;
       none = b .none;
       sets = b .sets;
       relations = b .relations;
-      clear = part-clear (c8 .args .work .now) (c4 .if1 .e) (b .clear) (within c4);
+      clear = part-clear (entry .args .work .now) (after-if1 .if1 .e) (b .clear) (within after-if1);
     }
 
 returns : tie.Need-returns
 returns c =
-    let c10 = c .before .before .before .before .before .before .before .before .before .before in
-    let c15 = c10 .before .before .before .before .before in
-    let c19 = c15 .before .before .before .before in
-    let c15 = c15 in (
-      c10 .fill .ensures,
-      whole-clear (c19 .args .work .now) (c15 .if1 .e) (c19 .pre .clear) (within c15) (c10 .fill .last .1 .1 .0) _
-          (c10 .fill .kept .1 .1 .0) (c .before .before .clear .ensures),
+    let after-fill = c .before .before .before .before .before .before .before .before .before .before in
+    let after-if1 = after-fill .before .before .before .before .before in
+    let entry = after-if1 .before .before .before .before in (
+      after-fill .fill .ensures,
+      whole-clear (entry .args .work .now) (after-if1 .if1 .e) (entry .pre .clear) (within after-if1) (after-fill .fill .last .1 .1 .0) _
+          (after-fill .fill .kept .1 .1 .0) (c .before .before .clear .ensures),
     )
 
 pub made-spec : {M : Type 1} → statement M

@@ -18,13 +18,13 @@ goes c = subst (NewChecked _ _ _) (c .check3 .given .1) (c .before .before .chec
 
 returns : tie.Need-returns
 returns c =
-    let c3 = c .before .before .before in
-    let c3 = c3 in
-    let c6 = c3 .before .before .before in
-    let c11 = c6 .before .before .before .before .before in (
-      subst (NewChecked _ _ _) (c .before .check2 .given .1) (c3 .check .ensures) (memories (c11 .args .relations .now) (c11 .args .sets .now)) refl
+    let after-check = c .before .before .before in
+    let after-clear = after-check .before .before .before in
+    let entry = after-clear .before .before .before .before .before in (
+      subst (NewChecked _ _ _) (c .before .check2 .given .1) (after-check .check .ensures) (memories (entry .args .relations .now) (entry .args .sets .now))
+          refl
           refl,
-      c6 .clear .ensures,
+      after-clear .clear .ensures,
     )
 
 begin-requires : tie.Need-begin-requires
@@ -35,45 +35,45 @@ begin-requires-2 c κs = (omega arith, omega arith, goes (c .before .before .bef
 
 slice-write-relations : tie.Need-slice-write-relations
 slice-write-relations c =
-    let c6 = c .before .before .before .before .before .before in
-    let c9 = c6 .before .before .before in
-    let h = goes (c9) .2 in omega (arith, h, c6 .begin .kept .0)
+    let after-begin = c .before .before .before .before .before .before in
+    let after-check3 = after-begin .before .before .before in
+    let h = goes (after-check3) .2 in omega (arith, h, after-begin .begin .kept .0)
 
 as-level-requires : tie.Need-as-level-requires
 as-level-requires c κs =
-    let c12 = c .before .before .before .before .before .before .before .before .before .before .before .before in
-    let t = goes (c12) in omega (arith, t .0, t .1)
+    let after-check3 = c .before .before .before .before .before .before .before .before .before .before .before .before in
+    let t = goes (after-check3) in omega (arith, t .0, t .1)
 
 made-requires : tie.Need-made-requires
 made-requires c κs =
-    let c6 = c .before .before .before .before .before .before in
-    let c10 = c6 .before .before .before .before in
-    let c13 = c10 .before .before .before in
-    let c18 = c13 .before .before .before .before .before in
-    let c23 = c18 .before .before .before .before .before in
-    let a = c23 .args in begun-here (memories (a .relations .now) (a .sets .now)) (a .k) _ _ (goes (c13)) (c .as-level .ensures) _ _
-    (c10 .begin .ensures) (c6 .begin2 .ensures) _ (still-clear (length (a .work .now)) _ (c18 .clear .ensures))
+    let after-begin2 = c .before .before .before .before .before .before in
+    let after-begin = after-begin2 .before .before .before .before in
+    let after-check3 = after-begin .before .before .before in
+    let after-clear = after-check3 .before .before .before .before .before in
+    let entry = after-clear .before .before .before .before .before in
+    let a = entry .args in begun-here (memories (a .relations .now) (a .sets .now)) (a .k) _ _ (goes (after-check3)) (c .as-level .ensures) _ _
+    (after-begin .begin .ensures) (after-begin2 .begin2 .ensures) _ (still-clear (length (a .work .now)) _ (after-clear .clear .ensures))
 
 same-length-2 : tie.Need-same-length-2
 same-length-2 c =
-    let c6 = c .before .before .before .before .before .before in
-    let c17 = c6 .before .before .before .before .before .before .before .before .before .before .before in
-    let c20 = c17 .before .before .before in
-    c6 .made .kept .0 ∙ length-set (c17 .begin .last .0) 0 (c20 .check3 .given .0 .0) ∙ c17 .begin .kept .0
+    let after-made = c .before .before .before .before .before .before in
+    let after-begin = after-made .before .before .before .before .before .before .before .before .before .before .before in
+    let after-check3 = after-begin .before .before .before in
+    after-made .made .kept .0 ∙ length-set (after-begin .begin .last .0) 0 (after-check3 .check3 .given .0 .0) ∙ after-begin .begin .kept .0
 
 returns-2 : tie.Need-returns-2
 returns-2 c =
-    let c6 = c .before .before .before .before .before .before in
-    let c7 = c6 .before in
-    let c13 = c7 .before .before .before .before .before .before in
-    let c17 = c13 .before .before .before .before in
-    let c20 = c17 .before .before .before in
-    let c25 = c20 .before .before .before .before .before in
-    let c30 = c25 .before .before .before .before .before in
-    let a = c30 .args in (
-      created-new (memories (a .relations .now) (a .sets .now)) (a .k) _ _ (goes (c20)) (c7 .as-level .ensures) _ _
-          (c17 .begin .ensures) (c13 .begin2 .ensures) _ _ (c6 .made .ensures .0),
-      c6 .made .ensures .1 ∙ ap (λ n. replicate n 0) (c25 .clear .kept .0),
+    let after-made = c .before .before .before .before .before .before in
+    let after-as-level = after-made .before in
+    let after-begin2 = after-as-level .before .before .before .before .before .before in
+    let after-begin = after-begin2 .before .before .before .before in
+    let after-check3 = after-begin .before .before .before in
+    let after-clear = after-check3 .before .before .before .before .before in
+    let entry = after-clear .before .before .before .before .before in
+    let a = entry .args in (
+      created-new (memories (a .relations .now) (a .sets .now)) (a .k) _ _ (goes (after-check3)) (after-as-level .as-level .ensures) _ _
+          (after-begin .begin .ensures) (after-begin2 .begin2 .ensures) _ _ (after-made .made .ensures .0),
+      after-made .made .ensures .1 ∙ ap (λ n. replicate n 0) (after-clear .clear .kept .0),
     )
 
 pub new-spec : {M : Type 1} → statement M

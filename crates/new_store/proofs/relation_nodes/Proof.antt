@@ -6,10 +6,11 @@ use Rattle.new_store.proofs.relation_nodes.Tie as tie
 
 returns : tie.Need-returns
 returns c =
-    let c4 = c .before .before .before .before in
-    let c11 = c4 .before .before .before .before .before .before .before in
-    let c18 = c11 .before .before .before .before .before .before .before in
-    performs-then (c18 .zero-at-depth .ensures) (performs-then (c11 .one-at-depth .ensures) (c4 .top-at-depth .ensures))
+    let after-top-at-depth = c .before .before .before .before in
+    let after-one-at-depth = after-top-at-depth .before .before .before .before .before .before .before in
+    let after-zero-at-depth = after-one-at-depth .before .before .before .before .before .before .before in
+    performs-then (after-zero-at-depth .zero-at-depth .ensures)
+    (performs-then (after-one-at-depth .one-at-depth .ensures) (after-top-at-depth .top-at-depth .ensures))
 
 pub relation-nodes-spec : {M : Type 1} → statement M
 relation-nodes-spec =

@@ -17,55 +17,55 @@ slice-read-as-index c =
 
 sub-build : tie.Need-sub-build
 sub-build c =
-    let c7 = c .before .before .before .before .before .before .before in
-    let h = c7 .pre .0 .store .room rel .headed in omega arith
+    let entry = c .before .before .before .before .before .before .before in
+    let h = entry .pre .0 .store .room rel .headed in omega arith
 
 part-build-start : tie.Need-part-build-start
 part-build-start c =
-    let c7 = c .before .before .before .before .before .before .before in
-    let h = c7 .pre .0 .store .room rel .headed in omega arith
+    let entry = c .before .before .before .before .before .before .before in
+    let h = entry .pre .0 .store .room rel .headed in omega arith
 
 as-level-requires : tie.Need-as-level-requires
 as-level-requires c κs =
-    let c9 = c .before .before .before .before .before .before .before .before .before in
-    let h = c9 .pre .0 .store .few in omega arith
+    let entry = c .before .before .before .before .before .before .before .before .before in
+    let h = entry .pre .0 .store .few in omega arith
 
 commit-requires : tie.Need-commit-requires
 commit-requires c κs =
-    let c5 = c .before .before .before .before .before in
-    let c6 = c5 .before in
-    let c9 = c6 .before .before .before in
-    let c16 = c9 .before .before .before .before .before .before .before in
-    let a = c16 .args in
-    let y = c16 .pre in
-    let t = built-within (a .text .now) (memories (a .relations .now) (a .sets .now)) (a .work .now) (y .0) _ (c9 .as-index .ensures)
-    (y .1) (y .2) _ (c6 .as-level .ensures) _ _ _ (c5 .build .ensures) in (omega arith, t .0, t .1, t .2)
+    let after-build = c .before .before .before .before .before in
+    let after-as-level = after-build .before in
+    let after-as-index = after-as-level .before .before .before in
+    let entry = after-as-index .before .before .before .before .before .before .before in
+    let a = entry .args in
+    let y = entry .pre in
+    let t = built-within (a .text .now) (memories (a .relations .now) (a .sets .now)) (a .work .now) (y .0) _ (after-as-index .as-index .ensures)
+    (y .1) (y .2) _ (after-as-level .as-level .ensures) _ _ _ (after-build .build .ensures) in (omega arith, t .0, t .1, t .2)
 
 returns : tie.Need-returns
 returns c =
-    let c3 = c .before .before .before in
-    let c9 = c3 .before .before .before .before .before .before in
-    let c10 = c9 .before in
-    let c13 = c10 .before .before .before in
-    let c20 = c13 .before .before .before .before .before .before .before in
-    let a = c20 .args in
-    let y = c20 .pre in
-    built-ran (a .text .now) (memories (a .relations .now) (a .sets .now)) (a .work .now) (y .0) _ (c13 .as-index .ensures)
-    (y .1) (y .2) _ (c10 .as-level .ensures) _ _ _ (c9 .build .ensures) _ _
-    (c3 .commit .ensures) (fitted (c .if1 .taken))
+    let after-commit = c .before .before .before in
+    let after-build = after-commit .before .before .before .before .before .before in
+    let after-as-level = after-build .before in
+    let after-as-index = after-as-level .before .before .before in
+    let entry = after-as-index .before .before .before .before .before .before .before in
+    let a = entry .args in
+    let y = entry .pre in
+    built-ran (a .text .now) (memories (a .relations .now) (a .sets .now)) (a .work .now) (y .0) _ (after-as-index .as-index .ensures)
+    (y .1) (y .2) _ (after-as-level .as-level .ensures) _ _ _ (after-build .build .ensures) _ _
+    (after-commit .commit .ensures) (fitted (c .if1 .taken))
 
 returns-2 : tie.Need-returns-2
 returns-2 c =
-    let c3 = c .before .before .before in
-    let c9 = c3 .before .before .before .before .before .before in
-    let c10 = c9 .before in
-    let c13 = c10 .before .before .before in
-    let c20 = c13 .before .before .before .before .before .before .before in
-    let a = c20 .args in
-    let y = c20 .pre in
-    built-ran (a .text .now) (memories (a .relations .now) (a .sets .now)) (a .work .now) (y .0) _ (c13 .as-index .ensures)
-    (y .1) (y .2) _ (c10 .as-level .ensures) _ _ _ (c9 .build .ensures) _ _
-    (c3 .commit .ensures) (full (c .if1 .left))
+    let after-commit = c .before .before .before in
+    let after-build = after-commit .before .before .before .before .before .before in
+    let after-as-level = after-build .before in
+    let after-as-index = after-as-level .before .before .before in
+    let entry = after-as-index .before .before .before .before .before .before .before in
+    let a = entry .args in
+    let y = entry .pre in
+    built-ran (a .text .now) (memories (a .relations .now) (a .sets .now)) (a .work .now) (y .0) _ (after-as-index .as-index .ensures)
+    (y .1) (y .2) _ (after-as-level .as-level .ensures) _ _ _ (after-build .build .ensures) _ _
+    (after-commit .commit .ensures) (full (c .if1 .left))
 
 pub built-spec : {M : Type 1} → statement M
 built-spec =

@@ -13,9 +13,9 @@ use Rattle.policies.proofs.run_checked.Tie as tie
 
 returns : tie.Need-returns
 returns c =
-    let c5 = c .before .before .before .before .before in
-    let a = c5 .args in
-    policy-refused (a .text .now) (memories (a .relations .now) (a .sets .now)) (c5 .pre .store) _ (long-verdict _ _ _ (lt-leb _ _ (c .if1 .taken)))
+    let entry = c .before .before .before .before .before in
+    let a = entry .args in
+    policy-refused (a .text .now) (memories (a .relations .now) (a .sets .now)) (entry .pre .store) _ (long-verdict _ _ _ (lt-leb _ _ (c .if1 .taken)))
 
 slice-read-read : tie.Need-slice-read-read
 slice-read-read c =
@@ -23,10 +23,10 @@ slice-read-read c =
 
 built-requires : tie.Need-built-requires
 built-requires c κs =
-    let c4 = c .before .before .before .before in
-    let c6 = c4 .before .before in
-    let c11 = c6 .before .before .before .before .before in
-    (c11 .pre, le-leb _ _ (c6 .if1 .left), sym (c4 .read .ensures) ∙ c .before .before .enum-told .given .1)
+    let after-read = c .before .before .before .before in
+    let at-if1 = after-read .before .before in
+    let entry = at-if1 .before .before .before .before .before in
+    (entry .pre, le-leb _ _ (at-if1 .if1 .left), sym (after-read .read .ensures) ∙ c .before .before .enum-told .given .1)
 
 returns-2 : tie.Need-returns-2
 returns-2 c =
@@ -35,42 +35,42 @@ returns-2 c =
 returns-3 : tie.Need-returns-3
 unfolding of-reading
 returns-3 c =
-    let c3 = c .before .before .before in
-    let c5 = c3 .before .before in
-    let c10 = c5 .before .before .before .before .before in
-    let a = c10 .args in
-    read-refused (a .text .now) (memories (a .relations .now) (a .sets .now)) (a .work .now) (c10 .pre) _ (le-leb _ _ (c5 .if1 .left))
-    (sym (c3 .read .ensures) ∙ c .before .read2 .given .1) _ refl
+    let after-read = c .before .before .before in
+    let at-if1 = after-read .before .before in
+    let entry = at-if1 .before .before .before .before .before in
+    let a = entry .args in
+    read-refused (a .text .now) (memories (a .relations .now) (a .sets .now)) (a .work .now) (entry .pre) _ (le-leb _ _ (at-if1 .if1 .left))
+    (sym (after-read .read .ensures) ∙ c .before .read2 .given .1) _ refl
 
 returns-4 : tie.Need-returns-4
 unfolding of-reading
 returns-4 c =
-    let c3 = c .before .before .before in
-    let c5 = c3 .before .before in
-    let c10 = c5 .before .before .before .before .before in
-    let a = c10 .args in
-    read-refused (a .text .now) (memories (a .relations .now) (a .sets .now)) (a .work .now) (c10 .pre) _ (le-leb _ _ (c5 .if1 .left))
-    (sym (c3 .read .ensures) ∙ c .before .read3 .given .1) _ refl
+    let after-read = c .before .before .before in
+    let at-if1 = after-read .before .before in
+    let entry = at-if1 .before .before .before .before .before in
+    let a = entry .args in
+    read-refused (a .text .now) (memories (a .relations .now) (a .sets .now)) (a .work .now) (entry .pre) _ (le-leb _ _ (at-if1 .if1 .left))
+    (sym (after-read .read .ensures) ∙ c .before .read3 .given .1) _ refl
 
 returns-5 : tie.Need-returns-5
 unfolding of-reading
 returns-5 c =
-    let c3 = c .before .before .before in
-    let c5 = c3 .before .before in
-    let c10 = c5 .before .before .before .before .before in
-    let a = c10 .args in
-    read-refused (a .text .now) (memories (a .relations .now) (a .sets .now)) (a .work .now) (c10 .pre) _ (le-leb _ _ (c5 .if1 .left))
-    (sym (c3 .read .ensures) ∙ c .before .read4 .given .1) _ refl
+    let after-read = c .before .before .before in
+    let at-if1 = after-read .before .before in
+    let entry = at-if1 .before .before .before .before .before in
+    let a = entry .args in
+    read-refused (a .text .now) (memories (a .relations .now) (a .sets .now)) (a .work .now) (entry .pre) _ (le-leb _ _ (at-if1 .if1 .left))
+    (sym (after-read .read .ensures) ∙ c .before .read4 .given .1) _ refl
 
 returns-6 : tie.Need-returns-6
 unfolding of-reading
 returns-6 c =
-    let c3 = c .before .before .before in
-    let c5 = c3 .before .before in
-    let c10 = c5 .before .before .before .before .before in
-    let a = c10 .args in
-    read-refused (a .text .now) (memories (a .relations .now) (a .sets .now)) (a .work .now) (c10 .pre) _ (le-leb _ _ (c5 .if1 .left))
-    (sym (c3 .read .ensures) ∙ c .before .read5 .given .1) _ refl
+    let after-read = c .before .before .before in
+    let at-if1 = after-read .before .before in
+    let entry = at-if1 .before .before .before .before .before in
+    let a = entry .args in
+    read-refused (a .text .now) (memories (a .relations .now) (a .sets .now)) (a .work .now) (entry .pre) _ (le-leb _ _ (at-if1 .if1 .left))
+    (sym (after-read .read .ensures) ∙ c .before .read5 .given .1) _ refl
 
 pub run-checked-spec : {M : Type 1} → statement M
 run-checked-spec =

@@ -127,149 +127,151 @@ pub +atom+product+starred+sum-spec : {M : Type 1} → statement M
     (λ c κs. search needs)
     (λ c. let l = c .before .byte .ensures .1 (omega (arith, c .if1 .taken)) in omega (arith, l))
     (λ c κs.
-    let c3 = c .before .before .before in
-    let c7 = c3 .before .before .before .before in
-    let l = c3 .byte .ensures .1 (omega (arith, c .before .before .if1 .taken)) in (omega (arith, l, c7 .pre .0), omega (arith, l)))
+    let after-byte = c .before .before .before in
+    let entry = after-byte .before .before .before .before in
+    let l = after-byte .byte .ensures .1 (omega (arith, c .before .before .if1 .taken)) in (omega (arith, l, entry .pre .0), omega (arith, l)))
     (λ c κs. search needs)
     (λ c κs. search needs)
     (λ c. search needs)
     (λ c. search needs)
     (λ c.
-    let c4 = c .before .before .before .before in
-    let c11 = c4 .before .before .before .before .before .before .before in
-    let c19 = c11 .before .before .before .before .before .before .before .before in
-    let c22 = c19 .before .before .before in
-    let c23 = c22 .before in
-    negation-builds (sym (c23 .byte .ensures .0) ∙ c22 .if1 .taken) (c19 .atom .ensures) (c11 .one-at-depth .ensures) (c4 .difference .ensures))
+    let after-difference = c .before .before .before .before in
+    let after-one-at-depth = after-difference .before .before .before .before .before .before .before in
+    let after-atom = after-one-at-depth .before .before .before .before .before .before .before .before in
+    let at-if1 = after-atom .before .before .before in
+    let after-byte = at-if1 .before in
+    negation-builds (sym (after-byte .byte .ensures .0) ∙ at-if1 .if1 .taken) (after-atom .atom .ensures) (after-one-at-depth .one-at-depth .ensures)
+    (after-difference .difference .ensures))
     (λ c. let l = c .before .before .byte .ensures .1 (omega (arith, c .if2 .taken)) in omega (arith, l))
     (λ c κs.
-    let c4 = c .before .before .before .before in
-    let c8 = c4 .before .before .before .before in
-    let l = c4 .byte .ensures .1 (omega (arith, c .before .before .if2 .taken)) in (omega (arith, l, c8 .pre .0), omega (arith, l)))
+    let after-byte = c .before .before .before .before in
+    let entry = after-byte .before .before .before .before in
+    let l = after-byte .byte .ensures .1 (omega (arith, c .before .before .if2 .taken)) in (omega (arith, l, entry .pre .0), omega (arith, l)))
     (λ c κs. c .before .before .before .before .before .sum .ensures .within)
     (λ c. search needs)
     (λ c. search needs)
     (λ c.
-    let c6 = c .before .before .before .before .before .before in
-    let c9 = c6 .before .before .before in
-    let c11 = c9 .before .before in
-    paren-builds (sym (c11 .byte .ensures .0) ∙ c9 .if2 .taken) (c6 .sum .ensures) (c .past .ensures))
+    let after-sum-place = c .before .before .before .before .before .before in
+    let at-if2 = after-sum-place .before .before .before in
+    let after-byte = at-if2 .before .before in
+    paren-builds (sym (after-byte .byte .ensures .0) ∙ at-if2 .if2 .taken) (after-sum-place .sum .ensures) (c .past .ensures))
     (λ c κs.
-    let c3 = c .before .before .before in
-    let c4 = c3 .before in
-    let c8 = c4 .before .before .before .before in
-    (c8 .pre .1, λ e. c3 .if1 .left (c4 .byte .ensures .0 ∙ e), λ e. c .before .before .if2 .left (c4 .byte .ensures .0 ∙ e)))
+    let at-if1 = c .before .before .before in
+    let after-byte = at-if1 .before in
+    let entry = after-byte .before .before .before .before in
+    (entry .pre .1, λ e. at-if1 .if1 .left (after-byte .byte .ensures .0 ∙ e), λ e. c .before .before .if2 .left (after-byte .byte .ensures .0 ∙ e)))
     (λ c. search needs)
     (λ c. search needs)
     (λ c. c .before .before .before .before .leaf .ensures))
     (λ t. product-lts.spec (product-calls t) (product-at t) product.Post product-Inv product-μ
     (λ c κs.
-    let c5 = c .before .before .before .before .before in
-    (omega (arith, c5 .pre .0), c5 .pre .1))
+    let entry = c .before .before .before .before .before in
+    (omega (arith, entry .pre .0), entry .pre .1))
     (λ c. loop-begins product-looped (c .before .before .before .before .before .starred .ensures))
     (λ c κs. search needs)
     (λ c. let l = c .before .byte .ensures .1 (omega (arith, c .if1 .taken)) in omega (arith, l))
     (λ c κs.
-    let c3 = c .before .before .before in
-    let c4 = c3 .before in
-    let c16 = c4 .before .before .before .before .before .before .before .before .before .before .before .before in
-    let l = c3 .byte .ensures .1 (omega (arith, c .before .before .if1 .taken)) in
-    (omega (arith, l, c4 .loop .inv .from, c16 .pre .0), omega (arith, l)))
+    let after-byte = c .before .before .before in
+    let at-loop = after-byte .before in
+    let entry = at-loop .before .before .before .before .before .before .before .before .before .before .before .before in
+    let l = after-byte .byte .ensures .1 (omega (arith, c .before .before .if1 .taken)) in
+    (omega (arith, l, at-loop .loop .inv .from, entry .pre .0), omega (arith, l)))
     (λ c κs. search needs)
     (λ c.
-    let c12 = c .before .before .before .before .before .before .before .before .before .before .before .before in
-    let c15 = c12 .before .before .before in
-    let c16 = c15 .before in
-    let l = c16 .byte .ensures .1 (omega (arith, c15 .if1 .taken)) in omega (arith, l, c12 .starred2 .ensures .from))
+    let after-starred2 = c .before .before .before .before .before .before .before .before .before .before .before .before in
+    let at-if1 = after-starred2 .before .before .before in
+    let after-byte = at-if1 .before in
+    let l = after-byte .byte .ensures .1 (omega (arith, at-if1 .if1 .taken)) in omega (arith, l, after-starred2 .starred2 .ensures .from))
     (λ c.
-    let c3 = c .before .before .before in
-    let c4 = c3 .before in
-    let c9 = c4 .before .before .before .before .before in
-    let c11 = c9 .before .before in
-    let c12 = c11 .before in
-    let c15 = c12 .before .before .before in
-    let c16 = c15 .before in
-    let c17 = c16 .before in
-    loop-joins product-looped (seq-program _) (sym (c16 .byte .ensures .0) ∙ c15 .if1 .taken) (c12 .starred2 .ensures) (c4 .sequence .ensures) refl
-    (c17 .loop .inv) (omega (arith, c3 .nodes3 .given, c11 .nodes2 .given, c17 .loop .inv .long))
-    (omega (arith, c .before .work3 .given, c9 .work2 .given, c17 .loop .inv .work-length)))
+    let after-nodes3 = c .before .before .before in
+    let after-sequence = after-nodes3 .before in
+    let after-work2 = after-sequence .before .before .before .before .before in
+    let after-nodes2 = after-work2 .before .before in
+    let after-starred2 = after-nodes2 .before in
+    let at-if1 = after-starred2 .before .before .before in
+    let after-byte = at-if1 .before in
+    let at-loop = after-byte .before in
+    loop-joins product-looped (seq-program _) (sym (after-byte .byte .ensures .0) ∙ at-if1 .if1 .taken) (after-starred2 .starred2 .ensures)
+    (after-sequence .sequence .ensures) refl
+    (at-loop .loop .inv) (omega (arith, after-nodes3 .nodes3 .given, after-nodes2 .nodes2 .given, at-loop .loop .inv .long))
+    (omega (arith, c .before .work3 .given, after-work2 .work2 .given, at-loop .loop .inv .work-length)))
     (λ c.
-    let c7 = c .before .before .before .before .before .before .before in
-    omega (arith, c7 .nodes .given, c .before .before .loop .inv .long))
+    let after-nodes = c .before .before .before .before .before .before .before in
+    omega (arith, after-nodes .nodes .given, c .before .before .loop .inv .long))
     (λ c.
-    let c5 = c .before .before .before .before .before in
-    omega (arith, c5 .work .given, c .before .before .loop .inv .work-length))
+    let after-work = c .before .before .before .before .before in
+    omega (arith, after-work .work .given, c .before .before .loop .inv .work-length))
     (λ c.
-    let c8 = c .before .before .before .before .before .before .before .before in
-    loop-done product-looped (c8 .starred .ensures) (c .before .before .loop .inv) (λ e. c .if1 .left (c .before .byte .ensures .0 ∙ e))))
+    let after-starred = c .before .before .before .before .before .before .before .before in
+    loop-done product-looped (after-starred .starred .ensures) (c .before .before .loop .inv) (λ e. c .if1 .left (c .before .byte .ensures .0 ∙ e))))
     (λ t. starred-lts.spec (starred-calls t) (starred-at t) starred.Post starred-Inv starred-μ
     (λ c κs.
-    let c5 = c .before .before .before .before .before in
-    (omega (arith, c5 .pre .0), c5 .pre .1))
+    let entry = c .before .before .before .before .before in
+    (omega (arith, entry .pre .0), entry .pre .1))
     (λ c. loop-begins starred-looped (c .before .before .before .before .before .atom .ensures))
     (λ c κs. search needs)
     (λ c κs. search needs)
     (λ c. let l = c .before .before .before .before .before .before .before .before .byte .ensures .1
     (omega (arith, c .before .before .before .before .before .before .before .if1 .taken)) in omega (arith, l))
     (λ c.
-    let c7 = c .before .before .before .before .before .before .before in
-    let c8 = c7 .before in
-    let l = c8 .byte .ensures .1 (omega (arith, c7 .if1 .taken)) in omega (arith, l))
+    let at-if1 = c .before .before .before .before .before .before .before in
+    let after-byte = at-if1 .before in
+    let l = after-byte .byte .ensures .1 (omega (arith, at-if1 .if1 .taken)) in omega (arith, l))
     (λ c.
-    let c3 = c .before .before .before in
-    let c4 = c3 .before in
-    let c7 = c4 .before .before .before in
-    let c8 = c7 .before in
-    let c9 = c8 .before in
-    let l = c8 .byte .ensures .1 (omega (arith, c7 .if1 .taken)) in
-    loop-stars (sym (c8 .byte .ensures .0) ∙ c7 .if1 .taken) (omega (arith, l)) (c4 .star .ensures) refl (c9 .loop .inv)
-    (omega (arith, c3 .nodes2 .given, c9 .loop .inv .long)) (omega (arith, c .before .work2 .given, c9 .loop .inv .work-length)))
+    let after-nodes2 = c .before .before .before in
+    let after-star = after-nodes2 .before in
+    let at-if1 = after-star .before .before .before in
+    let after-byte = at-if1 .before in
+    let at-loop = after-byte .before in
+    let l = after-byte .byte .ensures .1 (omega (arith, at-if1 .if1 .taken)) in
+    loop-stars (sym (after-byte .byte .ensures .0) ∙ at-if1 .if1 .taken) (omega (arith, l)) (after-star .star .ensures) refl (at-loop .loop .inv)
+    (omega (arith, after-nodes2 .nodes2 .given, at-loop .loop .inv .long)) (omega (arith, c .before .work2 .given, at-loop .loop .inv .work-length)))
     (λ c.
-    let c7 = c .before .before .before .before .before .before .before in
-    omega (arith, c7 .nodes .given, c .before .before .loop .inv .long))
+    let after-nodes = c .before .before .before .before .before .before .before in
+    omega (arith, after-nodes .nodes .given, c .before .before .loop .inv .long))
     (λ c.
-    let c5 = c .before .before .before .before .before in
-    omega (arith, c5 .work .given, c .before .before .loop .inv .work-length))
+    let after-work = c .before .before .before .before .before in
+    omega (arith, after-work .work .given, c .before .before .loop .inv .work-length))
     (λ c.
-    let c8 = c .before .before .before .before .before .before .before .before in
-    loop-done starred-looped (c8 .atom .ensures) (c .before .before .loop .inv) (λ e. c .if1 .left (c .before .byte .ensures .0 ∙ e))))
+    let after-atom = c .before .before .before .before .before .before .before .before in
+    loop-done starred-looped (after-atom .atom .ensures) (c .before .before .loop .inv) (λ e. c .if1 .left (c .before .byte .ensures .0 ∙ e))))
     (λ t. sum-lts.spec (sum-calls t) (sum-at t) sum.Post sum-Inv sum-μ
     (λ c κs.
-    let c5 = c .before .before .before .before .before in
-    (omega (arith, c5 .pre .0), c5 .pre .1))
+    let entry = c .before .before .before .before .before in
+    (omega (arith, entry .pre .0), entry .pre .1))
     (λ c. loop-begins sum-looped (c .before .before .before .before .before .product .ensures))
     (λ c κs. search needs)
     (λ c. let l = c .before .byte .ensures .1 (omega (arith, c .if1 .taken)) in omega (arith, l))
     (λ c κs.
-    let c3 = c .before .before .before in
-    let c4 = c3 .before in
-    let c16 = c4 .before .before .before .before .before .before .before .before .before .before .before .before in
-    let l = c3 .byte .ensures .1 (omega (arith, c .before .before .if1 .taken)) in
-    (omega (arith, l, c4 .loop .inv .from, c16 .pre .0), omega (arith, l)))
+    let after-byte = c .before .before .before in
+    let at-loop = after-byte .before in
+    let entry = at-loop .before .before .before .before .before .before .before .before .before .before .before .before in
+    let l = after-byte .byte .ensures .1 (omega (arith, c .before .before .if1 .taken)) in
+    (omega (arith, l, at-loop .loop .inv .from, entry .pre .0), omega (arith, l)))
     (λ c κs. search needs)
     (λ c.
-    let c12 = c .before .before .before .before .before .before .before .before .before .before .before .before in
-    let c15 = c12 .before .before .before in
-    let c16 = c15 .before in
-    let l = c16 .byte .ensures .1 (omega (arith, c15 .if1 .taken)) in omega (arith, l, c12 .product2 .ensures .from))
+    let after-product2 = c .before .before .before .before .before .before .before .before .before .before .before .before in
+    let at-if1 = after-product2 .before .before .before in
+    let after-byte = at-if1 .before in
+    let l = after-byte .byte .ensures .1 (omega (arith, at-if1 .if1 .taken)) in omega (arith, l, after-product2 .product2 .ensures .from))
     (λ c.
-    let c3 = c .before .before .before in
-    let c4 = c3 .before in
-    let c9 = c4 .before .before .before .before .before in
-    let c11 = c9 .before .before in
-    let c12 = c11 .before in
-    let c15 = c12 .before .before .before in
-    let c16 = c15 .before in
-    let c17 = c16 .before in
-    loop-joins sum-looped (plus-program _) (sym (c16 .byte .ensures .0) ∙ c15 .if1 .taken) (c12 .product2 .ensures) (c4 .union .ensures) refl
-    (c17 .loop .inv) (omega (arith, c3 .nodes3 .given, c11 .nodes2 .given, c17 .loop .inv .long))
-    (omega (arith, c .before .work3 .given, c9 .work2 .given, c17 .loop .inv .work-length)))
+    let after-nodes3 = c .before .before .before in
+    let after-union = after-nodes3 .before in
+    let after-work2 = after-union .before .before .before .before .before in
+    let after-nodes2 = after-work2 .before .before in
+    let after-product2 = after-nodes2 .before in
+    let at-if1 = after-product2 .before .before .before in
+    let after-byte = at-if1 .before in
+    let at-loop = after-byte .before in
+    loop-joins sum-looped (plus-program _) (sym (after-byte .byte .ensures .0) ∙ at-if1 .if1 .taken) (after-product2 .product2 .ensures)
+    (after-union .union .ensures) refl (at-loop .loop .inv) (omega (arith, after-nodes3 .nodes3 .given, after-nodes2 .nodes2 .given, at-loop .loop .inv .long))
+    (omega (arith, c .before .work3 .given, after-work2 .work2 .given, at-loop .loop .inv .work-length)))
     (λ c.
-    let c7 = c .before .before .before .before .before .before .before in
-    omega (arith, c7 .nodes .given, c .before .before .loop .inv .long))
+    let after-nodes = c .before .before .before .before .before .before .before in
+    omega (arith, after-nodes .nodes .given, c .before .before .loop .inv .long))
     (λ c.
-    let c5 = c .before .before .before .before .before in
-    omega (arith, c5 .work .given, c .before .before .loop .inv .work-length))
+    let after-work = c .before .before .before .before .before in
+    omega (arith, after-work .work .given, c .before .before .loop .inv .work-length))
     (λ c.
-    let c8 = c .before .before .before .before .before .before .before .before in
-    loop-done sum-looped (c8 .product .ensures) (c .before .before .loop .inv) (λ e. c .if1 .left (c .before .byte .ensures .0 ∙ e))))
+    let after-product-place = c .before .before .before .before .before .before .before .before in
+    loop-done sum-looped (after-product-place .product .ensures) (c .before .before .loop .inv) (λ e. c .if1 .left (c .before .byte .ensures .0 ∙ e))))

@@ -7,31 +7,31 @@ use Rattle.policy_build.proofs.leaf.Tie as tie
 
 returns : tie.Need-returns
 returns c =
-    let c4 = c .before .before .before .before in
-    let c7 = c4 .before .before .before in
-    let c8 = c7 .before in
-    let c9 = c8 .before in
-    zero-builds (sym (c9 .byte .ensures .0) ∙ c7 .if1 .taken) (c8 .past .ensures) (c4 .zero-at-depth .ensures)
+    let after-zero-at-depth = c .before .before .before .before in
+    let at-if1 = after-zero-at-depth .before .before .before in
+    let after-past = at-if1 .before in
+    let after-byte = after-past .before in
+    zero-builds (sym (after-byte .byte .ensures .0) ∙ at-if1 .if1 .taken) (after-past .past .ensures) (after-zero-at-depth .zero-at-depth .ensures)
 
 returns-2 : tie.Need-returns-2
 returns-2 c =
-    let c4 = c .before .before .before .before in
-    let c7 = c4 .before .before .before in
-    let c9 = c7 .before .before in
-    let c10 = c9 .before in
-    one-builds (sym (c10 .byte .ensures .0) ∙ c7 .if2 .taken) (c9 .past .ensures) (c4 .one-at-depth .ensures)
+    let after-one-at-depth = c .before .before .before .before in
+    let at-if2 = after-one-at-depth .before .before .before in
+    let after-past = at-if2 .before .before in
+    let after-byte = after-past .before in
+    one-builds (sym (after-byte .byte .ensures .0) ∙ at-if2 .if2 .taken) (after-past .past .ensures) (after-one-at-depth .one-at-depth .ensures)
 
 returns-3 : tie.Need-returns-3
 returns-3 c =
-    let c4 = c .before .before .before .before in
-    let c7 = c4 .before .before .before in
-    let c8 = c7 .before in
-    let c9 = c8 .before in
-    let c10 = c9 .before in
-    let c14 = c10 .before .before .before .before in
-    let e = c10 .byte .ensures .0 in
-    name-builds (sym e) (λ x. c14 .pre .1 (sym e ∙ x)) (λ x. c14 .pre .2 (sym e ∙ x)) (c8 .if1 .left) (c7 .if2 .left) (c9 .past .ensures)
-    (c4 .named .ensures)
+    let after-named = c .before .before .before .before in
+    let at-if2 = after-named .before .before .before in
+    let at-if1 = at-if2 .before in
+    let after-past = at-if1 .before in
+    let after-byte = after-past .before in
+    let entry = after-byte .before .before .before .before in
+    let e = after-byte .byte .ensures .0 in
+    name-builds (sym e) (λ x. entry .pre .1 (sym e ∙ x)) (λ x. entry .pre .2 (sym e ∙ x)) (at-if1 .if1 .left) (at-if2 .if2 .left) (after-past .past .ensures)
+    (after-named .named .ensures)
 
 pub leaf-spec : {M : Type 1} → statement M
 leaf-spec =

@@ -7,28 +7,28 @@ use Rattle.policy_build.proofs.named.Tie as tie
 
 returns : tie.Need-returns
 returns c =
-    let c4 = c .before .before .before .before in
-    let c7 = c4 .before .before .before in
-    let c8 = c7 .before in
-    let c9 = c8 .before in
-    let c10 = c9 .before in
-    let c11 = c10 .before in
-    let c12 = c11 .before in
-    test-builds (c12 .field .ensures) (c10 .past .ensures) (sym (c11 .byte .ensures .0) ∙ c9 .if1 .taken) (c8 .bit .ensures) (c7 .past2 .ensures)
-    (c4 .test .ensures)
+    let after-test = c .before .before .before .before in
+    let after-past2 = after-test .before .before .before in
+    let after-bit = after-past2 .before in
+    let at-if1 = after-bit .before in
+    let after-past = at-if1 .before in
+    let after-byte = after-past .before in
+    let after-field = after-byte .before in
+    test-builds (after-field .field .ensures) (after-past .past .ensures) (sym (after-byte .byte .ensures .0) ∙ at-if1 .if1 .taken) (after-bit .bit .ensures)
+    (after-past2 .past2 .ensures) (after-test .test .ensures)
 
 returns-2 : tie.Need-returns-2
 returns-2 c =
-    let c4 = c .before .before .before .before in
-    let c7 = c4 .before .before .before in
-    let c8 = c7 .before in
-    let c9 = c8 .before in
-    let c10 = c9 .before in
-    let c11 = c10 .before in
-    let c12 = c11 .before in
-    let c13 = c12 .before in
-    assign-builds (c13 .field .ensures) (c11 .past .ensures) (λ e. c10 .if1 .left (c12 .byte .ensures .0 ∙ e)) (c9 .past3 .ensures)
-    (c8 .bit2 .ensures) (c7 .past4 .ensures) (c4 .assign .ensures)
+    let after-assign = c .before .before .before .before in
+    let after-past4 = after-assign .before .before .before in
+    let after-bit2 = after-past4 .before in
+    let after-past3 = after-bit2 .before in
+    let at-if1 = after-past3 .before in
+    let after-past = at-if1 .before in
+    let after-byte = after-past .before in
+    let after-field = after-byte .before in
+    assign-builds (after-field .field .ensures) (after-past .past .ensures) (λ e. at-if1 .if1 .left (after-byte .byte .ensures .0 ∙ e))
+    (after-past3 .past3 .ensures) (after-bit2 .bit2 .ensures) (after-past4 .past4 .ensures) (after-assign .assign .ensures)
 
 pub named-spec : {M : Type 1} → statement M
 named-spec =

@@ -27,17 +27,17 @@ enum-told-2 c = search needs
 
 returns-2 : tie.Need-returns-2
 returns-2 c =
-    let c3 = c .before .before .before in
-    let c4 = c3 .before in
-    let c6 = c4 .before .before in
-    not-predicate-rules _ _ _ _ _ (c6 .first-without .ensures) (c4 .enum-told .given .1) (c3 .first-offending .ensures)
-    (c .before .negation .given .1)
+    let after-first-offending = c .before .before .before in
+    let after-enum-told = after-first-offending .before in
+    let after-first-without = after-enum-told .before .before in
+    not-predicate-rules _ _ _ _ _ (after-first-without .first-without .ensures) (after-enum-told .enum-told .given .1)
+    (after-first-offending .first-offending .ensures) (c .before .negation .given .1)
 
 returns-3 : tie.Need-returns-3
 returns-3 c =
-    let c3 = c .before .before .before in
-    let c5 = c3 .before .before in
-    policy-rules _ _ _ _ (c5 .first-without .ensures) (c3 .enum-told .given .1) (c .before .before .first-offending .ensures)
+    let after-enum-told = c .before .before .before in
+    let after-first-without = after-enum-told .before .before in
+    policy-rules _ _ _ _ (after-first-without .first-without .ensures) (after-enum-told .enum-told .given .1) (c .before .before .first-offending .ensures)
     (c .enum-told2 .given .1)
 
 pub keeps-rules-spec : {M : Type 1} → statement M

@@ -27,8 +27,8 @@ returns-2 c = deep-reading _ _ _ _ _ (c .before .before .before .check .ensures)
 
 returns-3 : tie.Need-returns-3
 returns-3 c =
-    let c3 = c .before .before .before in
-    whole-reading _ _ _ _ _ _ (c3 .check .ensures) (c .before .enum-told .given .1) (c .keeps-rules .ensures)
+    let after-check = c .before .before .before in
+    whole-reading _ _ _ _ _ _ (after-check .check .ensures) (c .before .enum-told .given .1) (c .keeps-rules .ensures)
 
 pub read-spec : {M : Type 1} → statement M
 read-spec =

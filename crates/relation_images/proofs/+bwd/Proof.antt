@@ -62,66 +62,75 @@ unfolding bwd-program
     (λ c κs. search needs)
     (λ c. search needs)
     (λ c j.
-    let c4 = c .before .before .before .before in
-    let c6 = c4 .before .before in
-    let c7 = c6 .before in
-    given (not-false _ (c7 .if1 .left)) (recalled _ _ _ _ (bwd-memo _ _) (no (by begin (bwd-is _ _)) (less-says (le-ltb _ 2 (c6 .if2 .left))))
-    (c4 .recall .ensures) (c .before .before .found .given .1)) (c .with-handle2 .ensures))
+    let after-recall = c .before .before .before .before in
+    let at-if2 = after-recall .before .before in
+    let at-if1 = at-if2 .before in
+    given (not-false _ (at-if1 .if1 .left)) (recalled _ _ _ _ (bwd-memo _ _) (no (by begin (bwd-is _ _)) (less-says (le-ltb _ 2 (at-if2 .if2 .left))))
+    (after-recall .recall .ensures) (c .before .before .found .given .1)) (c .with-handle2 .ensures))
     (λ c. search needs)
     (λ c. search needs)
     (λ c j.
-    let c5 = c .before .before .before .before .before in
-    let c6 = c5 .before in
-    impossible (not-false _ (c6 .if1 .left))
-    (by (no (by begin (bwd-is _ _)) (less-says (le-ltb _ 2 (c5 .if2 .left)))) (node1-zero bwd-op _ _ (c .if3 .taken))))
+    let at-if2 = c .before .before .before .before .before in
+    let at-if1 = at-if2 .before in
+    impossible (not-false _ (at-if1 .if1 .left))
+    (by (no (by begin (bwd-is _ _)) (less-says (le-ltb _ 2 (at-if2 .if2 .left)))) (node1-zero bwd-op _ _ (c .if3 .taken))))
     (λ c κs. search needs)
     (λ c. search needs)
     (λ c κs.
-    let c3 = c .before .before .before in
-    let c14 = c3 .before .before .before .before .before .before .before .before .before .before .before in
-    (omega (arith, c14 .pre .0, c3 .if3 .left), tt))
+    let at-if3 = c .before .before .before in
+    let entry = at-if3 .before .before .before .before .before .before .before .before .before .before .before in
+    (omega (arith, entry .pre .0, at-if3 .if3 .left), tt))
     (λ c κs.
-    let c10 = c .before .before .before .before .before .before .before .before .before .before in
-    let c21 = c10 .before .before .before .before .before .before .before .before .before .before .before in
-    (omega (arith, c21 .pre .0, c10 .if3 .left), tt))
+    let at-if3 = c .before .before .before .before .before .before .before .before .before .before in
+    let entry = at-if3 .before .before .before .before .before .before .before .before .before .before .before in
+    (omega (arith, entry .pre .0, at-if3 .if3 .left), tt))
     (λ c κs.
-    let c14 = c .before .before .before .before .before .before .before .before .before .before .before .before .before .before in
-    let c17 = c14 .before .before .before in
-    let c28 = c17 .before .before .before .before .before .before .before .before .before .before .before in
-    (omega (arith, c28 .pre .0, c17 .if3 .left), tt))
+    let after-bwd-arg2 = c .before .before .before .before .before .before .before .before .before .before .before .before .before .before in
+    let at-if3 = after-bwd-arg2 .before .before .before in
+    let entry = at-if3 .before .before .before .before .before .before .before .before .before .before .before in
+    (omega (arith, entry .pre .0, at-if3 .if3 .left), tt))
     (λ c κs.
-    let c14 = c .before .before .before .before .before .before .before .before .before .before .before .before .before .before in
-    let c24 = c14 .before .before .before .before .before .before .before .before .before .before in
-    let c35 = c24 .before .before .before .before .before .before .before .before .before .before .before in
-    (omega (arith, c35 .pre .0, c24 .if3 .left), tt))
+    let after-bwd-arg4 = c .before .before .before .before .before .before .before .before .before .before .before .before .before .before in
+    let at-if3 = after-bwd-arg4 .before .before .before .before .before .before .before .before .before .before in
+    let entry = at-if3 .before .before .before .before .before .before .before .before .before .before .before in
+    (omega (arith, entry .pre .0, at-if3 .if3 .left), tt))
     (λ c κs. search needs)
     (λ c κs. search needs)
     (λ c.
-    let c7 = c .before .before .before .before .before .before .before in
-    let c14 = c7 .before .before .before .before .before .before .before in
-    let c21 = c14 .before .before .before .before .before .before .before in
-    let c28 = c21 .before .before .before .before .before .before .before in
-    let c35 = c28 .before .before .before .before .before .before .before in
-    omega (arith, c7 .sets5 .given, c14 .sets4 .given, c21 .sets3 .given, c28 .sets2 .given, c35 .sets .given))
+    let after-sets5 = c .before .before .before .before .before .before .before in
+    let after-sets4 = after-sets5 .before .before .before .before .before .before .before in
+    let after-sets3 = after-sets4 .before .before .before .before .before .before .before in
+    let after-sets2 = after-sets3 .before .before .before .before .before .before .before in
+    let after-sets = after-sets2 .before .before .before .before .before .before .before in
+    omega (arith, after-sets5 .sets5 .given, after-sets4 .sets4 .given, after-sets3 .sets3 .given, after-sets2 .sets2 .given, after-sets .sets .given))
     (λ c.
-    let c5 = c .before .before .before .before .before in
-    let c12 = c5 .before .before .before .before .before .before .before in
-    let c19 = c12 .before .before .before .before .before .before .before in
-    let c26 = c19 .before .before .before .before .before .before .before in
-    let c33 = c26 .before .before .before .before .before .before .before in
-    omega (arith, c .before .work6 .given, c5 .work5 .given, c12 .work4 .given, c19 .work3 .given, c26 .work2 .given, c33 .work .given))
+    let after-work5 = c .before .before .before .before .before in
+    let after-work4 = after-work5 .before .before .before .before .before .before .before in
+    let after-work3 = after-work4 .before .before .before .before .before .before .before in
+    let after-work2 = after-work3 .before .before .before .before .before .before .before in
+    let after-work = after-work2 .before .before .before .before .before .before .before in
+    omega (
+      arith,
+      c .before .work6 .given,
+      after-work5 .work5 .given,
+      after-work4 .work4 .given,
+      after-work3 .work3 .given,
+      after-work2 .work2 .given,
+      after-work .work .given,
+    ))
     (λ c j.
-    let c8 = c .before .before .before .before .before .before .before .before in
-    let c15 = c8 .before .before .before .before .before .before .before in
-    let c22 = c15 .before .before .before .before .before .before .before in
-    let c29 = c22 .before .before .before .before .before .before .before in
-    let c36 = c29 .before .before .before .before .before .before .before in
-    let c39 = c36 .before .before .before in
-    let c40 = c39 .before in
-    let c45 = c40 .before .before .before .before .before in
-    let c46 = c45 .before in
-    let c51 = c46 .before .before .before .before .before in
-    four-returns 15 _ _ _ (not-false _ (c46 .if1 .left)) (omega (arith, c51 .fits .level .fits)) (bwd-memo _ _)
-    (no (by begin (bwd-is _ _)) (less-says (le-ltb _ 2 (c45 .if2 .left)))) (opened _ _ _ _ (c40 .if3 .left) (c39 .get .ensures)) (c36 .bwd .ensures j)
-    (c29 .bwd2 .ensures j) (c22 .bwd3 .ensures j) (c15 .bwd4 .ensures j) (performs-on (c8 .two-unions .ensures))
+    let after-two-unions = c .before .before .before .before .before .before .before .before in
+    let after-bwd4 = after-two-unions .before .before .before .before .before .before .before in
+    let after-bwd3 = after-bwd4 .before .before .before .before .before .before .before in
+    let after-bwd2 = after-bwd3 .before .before .before .before .before .before .before in
+    let after-bwd = after-bwd2 .before .before .before .before .before .before .before in
+    let after-get = after-bwd .before .before .before in
+    let at-if3 = after-get .before in
+    let at-if2 = at-if3 .before .before .before .before .before in
+    let at-if1 = at-if2 .before in
+    let entry = at-if1 .before .before .before .before .before in
+    four-returns 15 _ _ _ (not-false _ (at-if1 .if1 .left)) (omega (arith, entry .fits .level .fits)) (bwd-memo _ _)
+    (no (by begin (bwd-is _ _)) (less-says (le-ltb _ 2 (at-if2 .if2 .left)))) (opened _ _ _ _ (at-if3 .if3 .left) (after-get .get .ensures))
+    (after-bwd .bwd .ensures j)
+    (after-bwd2 .bwd2 .ensures j) (after-bwd3 .bwd3 .ensures j) (after-bwd4 .bwd4 .ensures j) (performs-on (after-two-unions .two-unions .ensures))
     (c .before .before .remember .ensures)))

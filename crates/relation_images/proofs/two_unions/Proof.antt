@@ -14,7 +14,7 @@ two-unions-spec =
     (λ c. search needs)
     (λ c. search needs)
     (λ c.
-    let c4 = c .before .before .before .before in
-    let c11 = c4 .before .before .before .before .before .before .before in
-    let c18 = c11 .before .before .before .before .before .before .before in
-    performs-then (c18 .union .ensures) (performs-then (c11 .union2 .ensures) (c4 .mk .ensures))))
+    let after-mk = c .before .before .before .before in
+    let after-union2 = after-mk .before .before .before .before .before .before .before in
+    let after-union = after-union2 .before .before .before .before .before .before .before in
+    performs-then (after-union .union .ensures) (performs-then (after-union2 .union2 .ensures) (after-mk .mk .ensures))))

@@ -16,41 +16,43 @@ has-image-tests-spec =
     (λ c j. answer (yes (by begin (image-is _ _ _)) (empty-says (c .before .set-properties .ensures) (c .if1 .taken))))
     (λ c κs. search needs)
     (λ c j.
-    let c3 = c .before .before .before in
-    answer (yes (no (by begin (image-is _ _ _)) (empty-says (c3 .set-properties .ensures) (c .before .before .if1 .left)))
+    let after-set-properties = c .before .before .before in
+    answer (yes (no (by begin (image-is _ _ _)) (empty-says (after-set-properties .set-properties .ensures) (c .before .before .if1 .left)))
     (empty-of-other (c .before .relation-properties .ensures) (c .if2 .taken))))
     (λ c j.
-    let c3 = c .before .before .before in
-    let c4 = c3 .before in
-    answer (yes (no (no (by begin (image-is _ _ _)) (empty-says (c4 .set-properties .ensures) (c3 .if1 .left)))
+    let at-if1 = c .before .before .before in
+    let after-set-properties = at-if1 .before in
+    answer (yes (no (no (by begin (image-is _ _ _)) (empty-says (after-set-properties .set-properties .ensures) (at-if1 .if1 .left)))
     (empty-of-other (c .before .before .relation-properties .ensures) (c .before .if2 .left)))
-    (universal-says (c4 .set-properties .ensures) (c .if3 .taken))))
+    (universal-says (after-set-properties .set-properties .ensures) (c .if3 .taken))))
     (λ c j.
-    let c3 = c .before .before .before in
-    let c4 = c3 .before in
-    let c5 = c4 .before in
-    answer (yes (no (no (no (by begin (image-is _ _ _)) (empty-says (c5 .set-properties .ensures) (c4 .if1 .left)))
-    (empty-of-other (c3 .relation-properties .ensures) (c .before .before .if2 .left)))
-    (universal-says (c5 .set-properties .ensures) (c .before .if3 .left))) (identity-of-other (c3 .relation-properties .ensures) (c .if4 .taken))))
+    let after-relation-properties = c .before .before .before in
+    let at-if1 = after-relation-properties .before in
+    let after-set-properties = at-if1 .before in
+    answer (yes (no (no (no (by begin (image-is _ _ _)) (empty-says (after-set-properties .set-properties .ensures) (at-if1 .if1 .left)))
+    (empty-of-other (after-relation-properties .relation-properties .ensures) (c .before .before .if2 .left)))
+    (universal-says (after-set-properties .set-properties .ensures) (c .before .if3 .left)))
+    (identity-of-other (after-relation-properties .relation-properties .ensures) (c .if4 .taken))))
     (λ c j.
-    let c3 = c .before .before .before in
-    let c4 = c3 .before in
-    let c5 = c4 .before in
-    let c6 = c5 .before in
-    answer (yes (no (no (no (no (by begin (image-is _ _ _)) (empty-says (c6 .set-properties .ensures) (c5 .if1 .left)))
-    (empty-of-other (c4 .relation-properties .ensures) (c3 .if2 .left)))
-    (universal-says (c6 .set-properties .ensures) (c .before .before .if3 .left)))
-    (identity-of-other (c4 .relation-properties .ensures) (c .before .if4 .left)))
-    (universal-of-other (c4 .relation-properties .ensures) (c .if5 .taken))))
+    let at-if2 = c .before .before .before in
+    let after-relation-properties = at-if2 .before in
+    let at-if1 = after-relation-properties .before in
+    let after-set-properties = at-if1 .before in
+    answer (yes (no (no (no (no (by begin (image-is _ _ _)) (empty-says (after-set-properties .set-properties .ensures) (at-if1 .if1 .left)))
+    (empty-of-other (after-relation-properties .relation-properties .ensures) (at-if2 .if2 .left)))
+    (universal-says (after-set-properties .set-properties .ensures) (c .before .before .if3 .left)))
+    (identity-of-other (after-relation-properties .relation-properties .ensures) (c .before .if4 .left)))
+    (universal-of-other (after-relation-properties .relation-properties .ensures) (c .if5 .taken))))
     (λ c κs. search needs)
     (λ c j.
-    let c3 = c .before .before .before in
-    let c4 = c3 .before in
-    let c5 = c4 .before in
-    let c6 = c5 .before in
-    let c7 = c6 .before in
+    let at-if3 = c .before .before .before in
+    let at-if2 = at-if3 .before in
+    let after-relation-properties = at-if2 .before in
+    let at-if1 = after-relation-properties .before in
+    let after-set-properties = at-if1 .before in
     answer-recalled _ _ _ _ (image-memo _ _ _)
-    (no (no (no (no (no (by begin (image-is _ _ _)) (empty-says (c7 .set-properties .ensures) (c6 .if1 .left)))
-    (empty-of-other (c5 .relation-properties .ensures) (c4 .if2 .left))) (universal-says (c7 .set-properties .ensures) (c3 .if3 .left)))
-    (identity-of-other (c5 .relation-properties .ensures) (c .before .before .if4 .left)))
-    (universal-of-other (c5 .relation-properties .ensures) (c .before .if5 .left))) (c .recall .ensures)))
+    (no (no (no (no (no (by begin (image-is _ _ _)) (empty-says (after-set-properties .set-properties .ensures) (at-if1 .if1 .left)))
+    (empty-of-other (after-relation-properties .relation-properties .ensures) (at-if2 .if2 .left)))
+    (universal-says (after-set-properties .set-properties .ensures) (at-if3 .if3 .left)))
+    (identity-of-other (after-relation-properties .relation-properties .ensures) (c .before .before .if4 .left)))
+    (universal-of-other (after-relation-properties .relation-properties .ensures) (c .before .if5 .left))) (c .recall .ensures)))

@@ -58,132 +58,141 @@ pub +sequence-spec : {M : Type 1} → statement M
     (λ c. search needs)
     (λ c. search needs)
     (λ c.
-    let c4 = c .before .before .before .before in
-    let c7 = c4 .before .before .before in
-    let c9 = c7 .before .before in
-    copied (c9 .with-handle .ensures) (impossible (not-false _ (c7 .if1 .left))
-    (by (node-reduces (c4 .sequence-tests .ensures) (c .before .before .found2 .given .1)) (node2-zero sequence-op _ _ _ (c .if2 .taken)))))
+    let after-sequence-tests = c .before .before .before .before in
+    let at-if1 = after-sequence-tests .before .before .before in
+    let after-with-handle = at-if1 .before .before in
+    copied (after-with-handle .with-handle .ensures) (impossible (not-false _ (at-if1 .if1 .left))
+    (by (node-reduces (after-sequence-tests .sequence-tests .ensures) (c .before .before .found2 .given .1)) (node2-zero sequence-op _ _ _ (c .if2 .taken)))))
     (λ c κs. search needs)
     (λ c κs. search needs)
     (λ c. search needs)
     (λ c κs.
-    let c6 = c .before .before .before .before .before .before in
-    let c18 = c6 .before .before .before .before .before .before .before .before .before .before .before .before in
-    (omega (arith, c18 .pre .0, c6 .if2 .left), tt))
+    let at-if2 = c .before .before .before .before .before .before in
+    let entry = at-if2 .before .before .before .before .before .before .before .before .before .before .before .before in
+    (omega (arith, entry .pre .0, at-if2 .if2 .left), tt))
     (λ c κs.
-    let c13 = c .before .before .before .before .before .before .before .before .before .before .before .before .before in
-    let c25 = c13 .before .before .before .before .before .before .before .before .before .before .before .before in
-    (omega (arith, c25 .pre .0, c13 .if2 .left), tt))
+    let at-if2 = c .before .before .before .before .before .before .before .before .before .before .before .before .before in
+    let entry = at-if2 .before .before .before .before .before .before .before .before .before .before .before .before in
+    (omega (arith, entry .pre .0, at-if2 .if2 .left), tt))
     (λ c κs.
-    let c14 = c .before .before .before .before .before .before .before .before .before .before .before .before .before .before in
-    let c20 = c14 .before .before .before .before .before .before in
-    let c32 = c20 .before .before .before .before .before .before .before .before .before .before .before .before in
-    (omega (arith, c32 .pre .0, c20 .if2 .left), tt))
+    let after-sequence-arg2 = c .before .before .before .before .before .before .before .before .before .before .before .before .before .before in
+    let at-if2 = after-sequence-arg2 .before .before .before .before .before .before in
+    let entry = at-if2 .before .before .before .before .before .before .before .before .before .before .before .before in
+    (omega (arith, entry .pre .0, at-if2 .if2 .left), tt))
     (λ c κs.
-    let c14 = c .before .before .before .before .before .before .before .before .before .before .before .before .before .before in
-    let c27 = c14 .before .before .before .before .before .before .before .before .before .before .before .before .before in
-    let c39 = c27 .before .before .before .before .before .before .before .before .before .before .before .before in
-    (omega (arith, c39 .pre .0, c27 .if2 .left), tt))
+    let after-sequence-arg4 = c .before .before .before .before .before .before .before .before .before .before .before .before .before .before in
+    let at-if2 = after-sequence-arg4 .before .before .before .before .before .before .before .before .before .before .before .before .before in
+    let entry = at-if2 .before .before .before .before .before .before .before .before .before .before .before .before in
+    (omega (arith, entry .pre .0, at-if2 .if2 .left), tt))
     (λ c κs.
-    let c14 = c .before .before .before .before .before .before .before .before .before .before .before .before .before .before in
-    let c28 = c14 .before .before .before .before .before .before .before .before .before .before .before .before .before .before in
-    let c34 = c28 .before .before .before .before .before .before in
-    let c46 = c34 .before .before .before .before .before .before .before .before .before .before .before .before in
-    (omega (arith, c46 .pre .0, c34 .if2 .left), tt))
+    let after-sequence-arg6 = c .before .before .before .before .before .before .before .before .before .before .before .before .before .before in
+    let after-sequence-arg2 =
+    after-sequence-arg6 .before .before .before .before .before .before .before .before .before .before .before .before .before .before in
+    let at-if2 = after-sequence-arg2 .before .before .before .before .before .before in
+    let entry = at-if2 .before .before .before .before .before .before .before .before .before .before .before .before in
+    (omega (arith, entry .pre .0, at-if2 .if2 .left), tt))
     (λ c κs.
-    let c14 = c .before .before .before .before .before .before .before .before .before .before .before .before .before .before in
-    let c28 = c14 .before .before .before .before .before .before .before .before .before .before .before .before .before .before in
-    let c41 = c28 .before .before .before .before .before .before .before .before .before .before .before .before .before in
-    let c53 = c41 .before .before .before .before .before .before .before .before .before .before .before .before in
-    (omega (arith, c53 .pre .0, c41 .if2 .left), tt))
+    let after-sequence-arg8 = c .before .before .before .before .before .before .before .before .before .before .before .before .before .before in
+    let after-sequence-arg4 =
+    after-sequence-arg8 .before .before .before .before .before .before .before .before .before .before .before .before .before .before in
+    let at-if2 = after-sequence-arg4 .before .before .before .before .before .before .before .before .before .before .before .before .before in
+    let entry = at-if2 .before .before .before .before .before .before .before .before .before .before .before .before in
+    (omega (arith, entry .pre .0, at-if2 .if2 .left), tt))
     (λ c κs.
-    let c14 = c .before .before .before .before .before .before .before .before .before .before .before .before .before .before in
-    let c28 = c14 .before .before .before .before .before .before .before .before .before .before .before .before .before .before in
-    let c42 = c28 .before .before .before .before .before .before .before .before .before .before .before .before .before .before in
-    let c48 = c42 .before .before .before .before .before .before in
-    let c60 = c48 .before .before .before .before .before .before .before .before .before .before .before .before in
-    (omega (arith, c60 .pre .0, c48 .if2 .left), tt))
+    let after-sequence-arg10 = c .before .before .before .before .before .before .before .before .before .before .before .before .before .before in
+    let after-sequence-arg6 =
+    after-sequence-arg10 .before .before .before .before .before .before .before .before .before .before .before .before .before .before in
+    let after-sequence-arg2 =
+    after-sequence-arg6 .before .before .before .before .before .before .before .before .before .before .before .before .before .before in
+    let at-if2 = after-sequence-arg2 .before .before .before .before .before .before in
+    let entry = at-if2 .before .before .before .before .before .before .before .before .before .before .before .before in
+    (omega (arith, entry .pre .0, at-if2 .if2 .left), tt))
     (λ c κs.
-    let c14 = c .before .before .before .before .before .before .before .before .before .before .before .before .before .before in
-    let c28 = c14 .before .before .before .before .before .before .before .before .before .before .before .before .before .before in
-    let c42 = c28 .before .before .before .before .before .before .before .before .before .before .before .before .before .before in
-    let c55 = c42 .before .before .before .before .before .before .before .before .before .before .before .before .before in
-    let c67 = c55 .before .before .before .before .before .before .before .before .before .before .before .before in
-    (omega (arith, c67 .pre .0, c55 .if2 .left), tt))
+    let after-sequence-arg12 = c .before .before .before .before .before .before .before .before .before .before .before .before .before .before in
+    let after-sequence-arg8 =
+    after-sequence-arg12 .before .before .before .before .before .before .before .before .before .before .before .before .before .before in
+    let after-sequence-arg4 =
+    after-sequence-arg8 .before .before .before .before .before .before .before .before .before .before .before .before .before .before in
+    let at-if2 = after-sequence-arg4 .before .before .before .before .before .before .before .before .before .before .before .before .before in
+    let entry = at-if2 .before .before .before .before .before .before .before .before .before .before .before .before in
+    (omega (arith, entry .pre .0, at-if2 .if2 .left), tt))
     (λ c κs. search needs)
     (λ c κs. search needs)
     (λ c. search needs)
     (λ c. search needs)
     (λ c.
-    let c4 = c .before .before .before .before in
-    let c7 = c4 .before .before .before in
-    let c9 = c7 .before .before in
-    copied (c9 .with-handle .ensures) (given (not-false _ (c7 .if1 .left)) (answer-reduces (c4 .sequence-tests .ensures) (c .before .before .found .given .1))
-    (c .with-handle2 .ensures)))
+    let after-sequence-tests = c .before .before .before .before in
+    let at-if1 = after-sequence-tests .before .before .before in
+    let after-with-handle = at-if1 .before .before in
+    copied (after-with-handle .with-handle .ensures) (given (not-false _ (at-if1 .if1 .left))
+    (answer-reduces (after-sequence-tests .sequence-tests .ensures) (c .before .before .found .given .1)) (c .with-handle2 .ensures)))
     (λ c.
-    let c7 = c .before .before .before .before .before .before .before in
-    let c14 = c7 .before .before .before .before .before .before .before in
-    let c21 = c14 .before .before .before .before .before .before .before in
-    let c28 = c21 .before .before .before .before .before .before .before in
-    let c35 = c28 .before .before .before .before .before .before .before in
-    let c42 = c35 .before .before .before .before .before .before .before in
-    let c49 = c42 .before .before .before .before .before .before .before in
-    let c56 = c49 .before .before .before .before .before .before .before in
-    let c63 = c56 .before .before .before .before .before .before .before in
+    let after-nodes9 = c .before .before .before .before .before .before .before in
+    let after-nodes8 = after-nodes9 .before .before .before .before .before .before .before in
+    let after-nodes7 = after-nodes8 .before .before .before .before .before .before .before in
+    let after-nodes6 = after-nodes7 .before .before .before .before .before .before .before in
+    let after-nodes5 = after-nodes6 .before .before .before .before .before .before .before in
+    let after-nodes4 = after-nodes5 .before .before .before .before .before .before .before in
+    let after-nodes3 = after-nodes4 .before .before .before .before .before .before .before in
+    let after-nodes2 = after-nodes3 .before .before .before .before .before .before .before in
+    let after-nodes = after-nodes2 .before .before .before .before .before .before .before in
     omega (
       arith,
-      c7 .nodes9 .given,
-      c14 .nodes8 .given,
-      c21 .nodes7 .given,
-      c28 .nodes6 .given,
-      c35 .nodes5 .given,
-      c42 .nodes4 .given,
-      c49 .nodes3 .given,
-      c56 .nodes2 .given,
-      c63 .nodes .given,
+      after-nodes9 .nodes9 .given,
+      after-nodes8 .nodes8 .given,
+      after-nodes7 .nodes7 .given,
+      after-nodes6 .nodes6 .given,
+      after-nodes5 .nodes5 .given,
+      after-nodes4 .nodes4 .given,
+      after-nodes3 .nodes3 .given,
+      after-nodes2 .nodes2 .given,
+      after-nodes .nodes .given,
     ))
     (λ c.
-    let c5 = c .before .before .before .before .before in
-    let c12 = c5 .before .before .before .before .before .before .before in
-    let c19 = c12 .before .before .before .before .before .before .before in
-    let c26 = c19 .before .before .before .before .before .before .before in
-    let c33 = c26 .before .before .before .before .before .before .before in
-    let c40 = c33 .before .before .before .before .before .before .before in
-    let c47 = c40 .before .before .before .before .before .before .before in
-    let c54 = c47 .before .before .before .before .before .before .before in
-    let c61 = c54 .before .before .before .before .before .before .before in
+    let after-work9 = c .before .before .before .before .before in
+    let after-work8 = after-work9 .before .before .before .before .before .before .before in
+    let after-work7 = after-work8 .before .before .before .before .before .before .before in
+    let after-work6 = after-work7 .before .before .before .before .before .before .before in
+    let after-work5 = after-work6 .before .before .before .before .before .before .before in
+    let after-work4 = after-work5 .before .before .before .before .before .before .before in
+    let after-work3 = after-work4 .before .before .before .before .before .before .before in
+    let after-work2 = after-work3 .before .before .before .before .before .before .before in
+    let after-work = after-work2 .before .before .before .before .before .before .before in
     omega (
       arith,
       c .before .work10 .given,
-      c5 .work9 .given,
-      c12 .work8 .given,
-      c19 .work7 .given,
-      c26 .work6 .given,
-      c33 .work5 .given,
-      c40 .work4 .given,
-      c47 .work3 .given,
-      c54 .work2 .given,
-      c61 .work .given,
+      after-work9 .work9 .given,
+      after-work8 .work8 .given,
+      after-work7 .work7 .given,
+      after-work6 .work6 .given,
+      after-work5 .work5 .given,
+      after-work4 .work4 .given,
+      after-work3 .work3 .given,
+      after-work2 .work2 .given,
+      after-work .work .given,
     ))
     (λ c.
-    let c8 = c .before .before .before .before .before .before .before .before in
-    let c15 = c8 .before .before .before .before .before .before .before in
-    let c22 = c15 .before .before .before .before .before .before .before in
-    let c29 = c22 .before .before .before .before .before .before .before in
-    let c36 = c29 .before .before .before .before .before .before .before in
-    let c43 = c36 .before .before .before .before .before .before .before in
-    let c50 = c43 .before .before .before .before .before .before .before in
-    let c57 = c50 .before .before .before .before .before .before .before in
-    let c64 = c57 .before .before .before .before .before .before .before in
-    let c67 = c64 .before .before .before in
-    let c69 = c67 .before .before in
-    let c71 = c69 .before .before in
-    let c73 = c71 .before .before in
-    let c75 = c73 .before .before in
-    let c78 = c75 .before .before .before in
-    let c80 = c78 .before .before in
-    let c83 = c80 .before .before .before in
-    copied (c80 .with-handle .ensures) (product-returns _ _ _ (not-false _ (c78 .if1 .left)) (omega (arith, c83 .fits .level .fits)) (c71 .if2 .left)
-    (node-reduces (c75 .sequence-tests .ensures) (c73 .found2 .given .1)) (c69 .get .ensures) (c67 .get2 .ensures) (c64 .sequence .ensures)
-    (c57 .sequence2 .ensures) (c50 .sequence3 .ensures) (c43 .sequence4 .ensures) (c36 .sequence5 .ensures) (c29 .sequence6 .ensures)
-    (c22 .sequence7 .ensures) (c15 .sequence8 .ensures) (c8 .sums .ensures) (c .before .before .remember .ensures))))
+    let after-sums = c .before .before .before .before .before .before .before .before in
+    let after-sequence8 = after-sums .before .before .before .before .before .before .before in
+    let after-sequence7 = after-sequence8 .before .before .before .before .before .before .before in
+    let after-sequence6 = after-sequence7 .before .before .before .before .before .before .before in
+    let after-sequence5 = after-sequence6 .before .before .before .before .before .before .before in
+    let after-sequence4 = after-sequence5 .before .before .before .before .before .before .before in
+    let after-sequence3 = after-sequence4 .before .before .before .before .before .before .before in
+    let after-sequence2 = after-sequence3 .before .before .before .before .before .before .before in
+    let after-sequence = after-sequence2 .before .before .before .before .before .before .before in
+    let after-get2 = after-sequence .before .before .before in
+    let after-get = after-get2 .before .before in
+    let at-if2 = after-get .before .before in
+    let after-found2 = at-if2 .before .before in
+    let after-sequence-tests = after-found2 .before .before in
+    let at-if1 = after-sequence-tests .before .before .before in
+    let after-with-handle = at-if1 .before .before in
+    let entry = after-with-handle .before .before .before in
+    copied (after-with-handle .with-handle .ensures) (product-returns _ _ _ (not-false _ (at-if1 .if1 .left)) (omega (arith, entry .fits .level .fits))
+    (at-if2 .if2 .left)
+    (node-reduces (after-sequence-tests .sequence-tests .ensures) (after-found2 .found2 .given .1)) (after-get .get .ensures) (after-get2 .get2 .ensures)
+    (after-sequence .sequence .ensures)
+    (after-sequence2 .sequence2 .ensures) (after-sequence3 .sequence3 .ensures) (after-sequence4 .sequence4 .ensures) (after-sequence5 .sequence5 .ensures)
+    (after-sequence6 .sequence6 .ensures)
+    (after-sequence7 .sequence7 .ensures) (after-sequence8 .sequence8 .ensures) (after-sums .sums .ensures) (c .before .before .remember .ensures))))

@@ -68,70 +68,90 @@ pub +star-spec : {M : Type 1} → statement M
     (λ c. search needs)
     (λ c. search needs)
     (λ c.
-    let c4 = c .before .before .before .before in
-    let c7 = c4 .before .before .before in
-    impossible (not-false _ (c7 .if1 .left))
-    (by (node-left (c4 .star-tests .ensures) (c .before .before .found2 .given .1)) (node1-zero star-op _ _ (c .if2 .taken))))
+    let after-star-tests = c .before .before .before .before in
+    let at-if1 = after-star-tests .before .before .before in
+    impossible (not-false _ (at-if1 .if1 .left))
+    (by (node-left (after-star-tests .star-tests .ensures) (c .before .before .found2 .given .1)) (node1-zero star-op _ _ (c .if2 .taken))))
     (λ c κs. search needs)
     (λ c. search needs)
     (λ c κs.
-    let c4 = c .before .before .before .before in
-    let c15 = c4 .before .before .before .before .before .before .before .before .before .before .before in
-    (omega (arith, c15 .pre .0, c4 .if2 .left), tt))
+    let at-if2 = c .before .before .before .before in
+    let entry = at-if2 .before .before .before .before .before .before .before .before .before .before .before in
+    (omega (arith, entry .pre .0, at-if2 .if2 .left), tt))
     (λ c κs. search needs)
     (λ c κs. search needs)
     (λ c κs. search needs)
     (λ c κs.
-    let c14 = c .before .before .before .before .before .before .before .before .before .before .before .before .before .before in
-    let c28 = c14 .before .before .before .before .before .before .before .before .before .before .before .before .before .before in
-    let c32 = c28 .before .before .before .before in
-    let c43 = c32 .before .before .before .before .before .before .before .before .before .before .before in
-    (omega (arith, c43 .pre .0, c32 .if2 .left), tt))
+    let after-sequence-arg4 = c .before .before .before .before .before .before .before .before .before .before .before .before .before .before in
+    let after-star-arg2 = after-sequence-arg4 .before .before .before .before .before .before .before .before .before .before .before .before .before .before in
+    let at-if2 = after-star-arg2 .before .before .before .before in
+    let entry = at-if2 .before .before .before .before .before .before .before .before .before .before .before in
+    (omega (arith, entry .pre .0, at-if2 .if2 .left), tt))
     (λ c κs. search needs)
     (λ c κs. search needs)
     (λ c. search needs)
     (λ c. search needs)
     (λ c.
-    let c4 = c .before .before .before .before in
-    let c7 = c4 .before .before .before in
-    given (not-false _ (c7 .if1 .left)) (answer-left (c4 .star-tests .ensures) (c .before .before .found .given .1)) (c .with-handle .ensures))
+    let after-star-tests = c .before .before .before .before in
+    let at-if1 = after-star-tests .before .before .before in
+    given (not-false _ (at-if1 .if1 .left)) (answer-left (after-star-tests .star-tests .ensures) (c .before .before .found .given .1))
+    (c .with-handle .ensures))
     (λ c. search needs)
     (λ c. search needs)
     (λ c.
-    let c4 = c .before .before .before .before in
-    let c7 = c4 .before .before .before in
-    let c9 = c7 .before .before in
-    let c12 = c9 .before .before .before in
-    called (not-false _ (c12 .if1 .left)) (other-left (c9 .star-tests .ensures) (c7 .enum-told .given .1)) (c4 .one-at-depth .ensures))
+    let after-one-at-depth = c .before .before .before .before in
+    let after-enum-told = after-one-at-depth .before .before .before in
+    let after-star-tests = after-enum-told .before .before in
+    let at-if1 = after-star-tests .before .before .before in
+    called (not-false _ (at-if1 .if1 .left)) (other-left (after-star-tests .star-tests .ensures) (after-enum-told .enum-told .given .1))
+    (after-one-at-depth .one-at-depth .ensures))
     (λ c.
-    let c7 = c .before .before .before .before .before .before .before in
-    let c14 = c7 .before .before .before .before .before .before .before in
-    let c21 = c14 .before .before .before .before .before .before .before in
-    let c28 = c21 .before .before .before .before .before .before .before in
-    let c35 = c28 .before .before .before .before .before .before .before in
-    let c42 = c35 .before .before .before .before .before .before .before in
-    omega (arith, c7 .nodes7 .given, c14 .nodes6 .given, c21 .nodes5 .given, c28 .nodes4 .given, c35 .nodes3 .given, c42 .nodes2 .given))
+    let after-nodes7 = c .before .before .before .before .before .before .before in
+    let after-nodes6 = after-nodes7 .before .before .before .before .before .before .before in
+    let after-nodes5 = after-nodes6 .before .before .before .before .before .before .before in
+    let after-nodes4 = after-nodes5 .before .before .before .before .before .before .before in
+    let after-nodes3 = after-nodes4 .before .before .before .before .before .before .before in
+    let after-nodes2 = after-nodes3 .before .before .before .before .before .before .before in
+    omega (
+      arith,
+      after-nodes7 .nodes7 .given,
+      after-nodes6 .nodes6 .given,
+      after-nodes5 .nodes5 .given,
+      after-nodes4 .nodes4 .given,
+      after-nodes3 .nodes3 .given,
+      after-nodes2 .nodes2 .given,
+    ))
     (λ c.
-    let c5 = c .before .before .before .before .before in
-    let c12 = c5 .before .before .before .before .before .before .before in
-    let c19 = c12 .before .before .before .before .before .before .before in
-    let c26 = c19 .before .before .before .before .before .before .before in
-    let c33 = c26 .before .before .before .before .before .before .before in
-    let c40 = c33 .before .before .before .before .before .before .before in
-    omega (arith, c .before .work8 .given, c5 .work7 .given, c12 .work6 .given, c19 .work5 .given, c26 .work4 .given, c33 .work3 .given, c40 .work2 .given))
+    let after-work7 = c .before .before .before .before .before in
+    let after-work6 = after-work7 .before .before .before .before .before .before .before in
+    let after-work5 = after-work6 .before .before .before .before .before .before .before in
+    let after-work4 = after-work5 .before .before .before .before .before .before .before in
+    let after-work3 = after-work4 .before .before .before .before .before .before .before in
+    let after-work2 = after-work3 .before .before .before .before .before .before .before in
+    omega (
+      arith,
+      c .before .work8 .given,
+      after-work7 .work7 .given,
+      after-work6 .work6 .given,
+      after-work5 .work5 .given,
+      after-work4 .work4 .given,
+      after-work3 .work3 .given,
+      after-work2 .work2 .given,
+    ))
     (λ c.
-    let c8 = c .before .before .before .before .before .before .before .before in
-    let c15 = c8 .before .before .before .before .before .before .before in
-    let c22 = c15 .before .before .before .before .before .before .before in
-    let c29 = c22 .before .before .before .before .before .before .before in
-    let c36 = c29 .before .before .before .before .before .before .before in
-    let c43 = c36 .before .before .before .before .before .before .before in
-    let c46 = c43 .before .before .before in
-    let c48 = c46 .before .before in
-    let c50 = c48 .before .before in
-    let c52 = c50 .before .before in
-    let c55 = c52 .before .before .before in
-    let c59 = c55 .before .before .before .before in
-    star-returns _ _ _ (not-false _ (c55 .if1 .left)) (omega (arith, c59 .fits .level .fits)) (c48 .if2 .left)
-    (node-left (c52 .star-tests .ensures) (c50 .found2 .given .1)) (c46 .get .ensures) (c43 .star .ensures) (c36 .sequence .ensures) (c29 .sequence2 .ensures)
-    (c22 .union .ensures) (c15 .star2 .ensures) (c8 .star-node .ensures) (c .before .before .remember .ensures)))
+    let after-star-node = c .before .before .before .before .before .before .before .before in
+    let after-star2 = after-star-node .before .before .before .before .before .before .before in
+    let after-union = after-star2 .before .before .before .before .before .before .before in
+    let after-sequence2 = after-union .before .before .before .before .before .before .before in
+    let after-sequence = after-sequence2 .before .before .before .before .before .before .before in
+    let after-star = after-sequence .before .before .before .before .before .before .before in
+    let after-get = after-star .before .before .before in
+    let at-if2 = after-get .before .before in
+    let after-found2 = at-if2 .before .before in
+    let after-star-tests = after-found2 .before .before in
+    let at-if1 = after-star-tests .before .before .before in
+    let entry = at-if1 .before .before .before .before in
+    star-returns _ _ _ (not-false _ (at-if1 .if1 .left)) (omega (arith, entry .fits .level .fits)) (at-if2 .if2 .left)
+    (node-left (after-star-tests .star-tests .ensures) (after-found2 .found2 .given .1)) (after-get .get .ensures) (after-star .star .ensures)
+    (after-sequence .sequence .ensures) (after-sequence2 .sequence2 .ensures)
+    (after-union .union .ensures) (after-star2 .star2 .ensures) (after-star-node .star-node .ensures) (c .before .before .remember .ensures)))

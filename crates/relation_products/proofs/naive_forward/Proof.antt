@@ -15,6 +15,6 @@ naive-forward-spec =
     (λ c. search needs)
     (λ c. search needs)
     (λ c.
-    let c4 = c .before .before .before .before in
-    let c11 = c4 .before .before .before .before .before .before .before in
-    performs-then (c11 .top-at-depth .ensures) (c4 .sequence .ensures)))
+    let after-sequence = c .before .before .before .before in
+    let after-top-at-depth = after-sequence .before .before .before .before .before .before .before in
+    performs-then (after-top-at-depth .top-at-depth .ensures) (after-sequence .sequence .ensures)))

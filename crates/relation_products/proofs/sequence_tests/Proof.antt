@@ -14,30 +14,31 @@ sequence-tests-spec =
     (λ c. answer (yes (by begin (sequence-is _ _ _)) (empty-says (c .before .relation-properties .ensures) (c .if1 .taken))))
     (λ c κs. search needs)
     (λ c.
-    let c3 = c .before .before .before in
-    answer (yes (no (by begin (sequence-is _ _ _)) (empty-says (c3 .relation-properties .ensures) (c .before .before .if1 .left)))
+    let after-relation-properties = c .before .before .before in
+    answer (yes (no (by begin (sequence-is _ _ _)) (empty-says (after-relation-properties .relation-properties .ensures) (c .before .before .if1 .left)))
     (identity-says (c .before .relation-properties2 .ensures) (c .if2 .taken))))
     (λ c.
-    let c3 = c .before .before .before in
-    let c4 = c3 .before in
-    answer (yes (no (no (by begin (sequence-is _ _ _)) (empty-says (c4 .relation-properties .ensures) (c3 .if1 .left)))
+    let at-if1 = c .before .before .before in
+    let after-relation-properties = at-if1 .before in
+    answer (yes (no (no (by begin (sequence-is _ _ _)) (empty-says (after-relation-properties .relation-properties .ensures) (at-if1 .if1 .left)))
     (identity-says (c .before .before .relation-properties2 .ensures) (c .before .if2 .left)))
     (empty-says (c .before .before .relation-properties2 .ensures) (c .if3 .taken))))
     (λ c.
-    let c3 = c .before .before .before in
-    let c4 = c3 .before in
-    let c5 = c4 .before in
-    answer (yes (no (no (no (by begin (sequence-is _ _ _)) (empty-says (c5 .relation-properties .ensures) (c4 .if1 .left)))
-    (identity-says (c3 .relation-properties2 .ensures) (c .before .before .if2 .left)))
-    (empty-says (c3 .relation-properties2 .ensures) (c .before .if3 .left))) (identity-says (c5 .relation-properties .ensures) (c .if4 .taken))))
+    let after-relation-properties2 = c .before .before .before in
+    let at-if1 = after-relation-properties2 .before in
+    let after-relation-properties = at-if1 .before in
+    answer (yes (no (no (no (by begin (sequence-is _ _ _)) (empty-says (after-relation-properties .relation-properties .ensures) (at-if1 .if1 .left)))
+    (identity-says (after-relation-properties2 .relation-properties2 .ensures) (c .before .before .if2 .left)))
+    (empty-says (after-relation-properties2 .relation-properties2 .ensures) (c .before .if3 .left)))
+    (identity-says (after-relation-properties .relation-properties .ensures) (c .if4 .taken))))
     (λ c κs. search needs)
     (λ c.
-    let c3 = c .before .before .before in
-    let c4 = c3 .before in
-    let c5 = c4 .before in
-    let c6 = c5 .before in
+    let at-if2 = c .before .before .before in
+    let after-relation-properties2 = at-if2 .before in
+    let at-if1 = after-relation-properties2 .before in
+    let after-relation-properties = at-if1 .before in
     answer-recalled _ _ _ _ (sequence-memo _ _ _)
-    (no (no (no (no (by begin (sequence-is _ _ _)) (empty-says (c6 .relation-properties .ensures) (c5 .if1 .left)))
-    (identity-says (c4 .relation-properties2 .ensures) (c3 .if2 .left)))
-    (empty-says (c4 .relation-properties2 .ensures) (c .before .before .if3 .left)))
-    (identity-says (c6 .relation-properties .ensures) (c .before .if4 .left))) (c .recall .ensures)))
+    (no (no (no (no (by begin (sequence-is _ _ _)) (empty-says (after-relation-properties .relation-properties .ensures) (at-if1 .if1 .left)))
+    (identity-says (after-relation-properties2 .relation-properties2 .ensures) (at-if2 .if2 .left)))
+    (empty-says (after-relation-properties2 .relation-properties2 .ensures) (c .before .before .if3 .left)))
+    (identity-says (after-relation-properties .relation-properties .ensures) (c .before .if4 .left))) (c .recall .ensures)))

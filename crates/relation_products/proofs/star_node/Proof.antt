@@ -16,27 +16,44 @@ star-node-spec =
     (λ c κs. search needs)
     (λ c κs. search needs)
     (λ c.
-    let c3 = c .before .before .before in
-    let c10 = c3 .before .before .before .before .before .before .before in
-    let c17 = c10 .before .before .before .before .before .before .before in
-    let c24 = c17 .before .before .before .before .before .before .before in
-    let c31 = c24 .before .before .before .before .before .before .before in
-    let c38 = c31 .before .before .before .before .before .before .before in
-    omega (arith, c3 .nodes6 .given, c10 .nodes5 .given, c17 .nodes4 .given, c24 .nodes3 .given, c31 .nodes2 .given, c38 .nodes .given))
+    let after-nodes6 = c .before .before .before in
+    let after-nodes5 = after-nodes6 .before .before .before .before .before .before .before in
+    let after-nodes4 = after-nodes5 .before .before .before .before .before .before .before in
+    let after-nodes3 = after-nodes4 .before .before .before .before .before .before .before in
+    let after-nodes2 = after-nodes3 .before .before .before .before .before .before .before in
+    let after-nodes = after-nodes2 .before .before .before .before .before .before .before in
+    omega (
+      arith,
+      after-nodes6 .nodes6 .given,
+      after-nodes5 .nodes5 .given,
+      after-nodes4 .nodes4 .given,
+      after-nodes3 .nodes3 .given,
+      after-nodes2 .nodes2 .given,
+      after-nodes .nodes .given,
+    ))
     (λ c.
-    let c8 = c .before .before .before .before .before .before .before .before in
-    let c15 = c8 .before .before .before .before .before .before .before in
-    let c22 = c15 .before .before .before .before .before .before .before in
-    let c29 = c22 .before .before .before .before .before .before .before in
-    let c36 = c29 .before .before .before .before .before .before .before in
-    omega (arith, c .before .work6 .given, c8 .work5 .given, c15 .work4 .given, c22 .work3 .given, c29 .work2 .given, c36 .work .given))
+    let after-work5 = c .before .before .before .before .before .before .before .before in
+    let after-work4 = after-work5 .before .before .before .before .before .before .before in
+    let after-work3 = after-work4 .before .before .before .before .before .before .before in
+    let after-work2 = after-work3 .before .before .before .before .before .before .before in
+    let after-work = after-work2 .before .before .before .before .before .before .before in
+    omega (
+      arith,
+      c .before .work6 .given,
+      after-work5 .work5 .given,
+      after-work4 .work4 .given,
+      after-work3 .work3 .given,
+      after-work2 .work2 .given,
+      after-work .work .given,
+    ))
     (λ c.
-    let c4 = c .before .before .before .before in
-    let c11 = c4 .before .before .before .before .before .before .before in
-    let c18 = c11 .before .before .before .before .before .before .before in
-    let c25 = c18 .before .before .before .before .before .before .before in
-    let c32 = c25 .before .before .before .before .before .before .before in
-    let c39 = c32 .before .before .before .before .before .before .before in
-    performs-then (c39 .sequence .ensures)
-    (performs-then (c32 .sequence2 .ensures)
-    (performs-then (c25 .sequence3 .ensures) (performs-then (c18 .sequence4 .ensures) (performs-then (c11 .union .ensures) (c4 .mk .ensures)))))))
+    let after-mk = c .before .before .before .before in
+    let after-union = after-mk .before .before .before .before .before .before .before in
+    let after-sequence4 = after-union .before .before .before .before .before .before .before in
+    let after-sequence3 = after-sequence4 .before .before .before .before .before .before .before in
+    let after-sequence2 = after-sequence3 .before .before .before .before .before .before .before in
+    let after-sequence = after-sequence2 .before .before .before .before .before .before .before in
+    performs-then (after-sequence .sequence .ensures)
+    (performs-then (after-sequence2 .sequence2 .ensures)
+    (performs-then (after-sequence3 .sequence3 .ensures) (performs-then (after-sequence4 .sequence4 .ensures)
+    (performs-then (after-union .union .ensures) (after-mk .mk .ensures)))))))

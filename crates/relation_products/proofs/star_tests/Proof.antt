@@ -17,15 +17,17 @@ star-tests-spec =
     shortcut-answer (yes (no (by begin (star-is _ _)) (empty-says (c .before .before .relation-properties .ensures) (c .before .if1 .left)))
     (identity-says (c .before .before .relation-properties .ensures) (c .if2 .taken))))
     (λ c.
-    let c3 = c .before .before .before in
-    shortcut-answer (yes (no (no (by begin (star-is _ _)) (empty-says (c3 .relation-properties .ensures) (c .before .before .if1 .left)))
-    (identity-says (c3 .relation-properties .ensures) (c .before .if2 .left))) (universal-says (c3 .relation-properties .ensures) (c .if3 .taken))))
+    let after-relation-properties = c .before .before .before in
+    shortcut-answer (yes (no (no (by begin (star-is _ _)) (empty-says (after-relation-properties .relation-properties .ensures) (c .before .before .if1 .left)))
+    (identity-says (after-relation-properties .relation-properties .ensures) (c .before .if2 .left)))
+    (universal-says (after-relation-properties .relation-properties .ensures) (c .if3 .taken))))
     (λ c κs. search needs)
     (λ c κs. search needs)
     (λ c.
-    let c3 = c .before .before .before in
-    let c4 = c3 .before in
-    let c5 = c4 .before in
-    shortcut-lookup (no (no (no (by begin (star-is _ _)) (empty-says (c5 .relation-properties .ensures) (c4 .if1 .left)))
-    (identity-says (c5 .relation-properties .ensures) (c3 .if2 .left))) (universal-says (c5 .relation-properties .ensures) (c .before .before .if3 .left)))
+    let at-if2 = c .before .before .before in
+    let at-if1 = at-if2 .before in
+    let after-relation-properties = at-if1 .before in
+    shortcut-lookup (no (no (no (by begin (star-is _ _)) (empty-says (after-relation-properties .relation-properties .ensures) (at-if1 .if1 .left)))
+    (identity-says (after-relation-properties .relation-properties .ensures) (at-if2 .if2 .left)))
+    (universal-says (after-relation-properties .relation-properties .ensures) (c .before .before .if3 .left)))
     (answer-recalled _ _ _ _ (star-memo _ _ _) begin (c .before .recall .ensures)) (c .shortcut-of .ensures)))

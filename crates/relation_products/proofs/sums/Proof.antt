@@ -15,23 +15,30 @@ sums-spec =
     (λ c κs. search needs)
     (λ c κs. search needs)
     (λ c.
-    let c3 = c .before .before .before in
-    let c10 = c3 .before .before .before .before .before .before .before in
-    let c17 = c10 .before .before .before .before .before .before .before in
-    let c24 = c17 .before .before .before .before .before .before .before in
-    let c31 = c24 .before .before .before .before .before .before .before in
-    omega (arith, c3 .nodes5 .given, c10 .nodes4 .given, c17 .nodes3 .given, c24 .nodes2 .given, c31 .nodes .given))
+    let after-nodes5 = c .before .before .before in
+    let after-nodes4 = after-nodes5 .before .before .before .before .before .before .before in
+    let after-nodes3 = after-nodes4 .before .before .before .before .before .before .before in
+    let after-nodes2 = after-nodes3 .before .before .before .before .before .before .before in
+    let after-nodes = after-nodes2 .before .before .before .before .before .before .before in
+    omega (
+      arith,
+      after-nodes5 .nodes5 .given,
+      after-nodes4 .nodes4 .given,
+      after-nodes3 .nodes3 .given,
+      after-nodes2 .nodes2 .given,
+      after-nodes .nodes .given,
+    ))
     (λ c.
-    let c8 = c .before .before .before .before .before .before .before .before in
-    let c15 = c8 .before .before .before .before .before .before .before in
-    let c22 = c15 .before .before .before .before .before .before .before in
-    let c29 = c22 .before .before .before .before .before .before .before in
-    omega (arith, c .before .work5 .given, c8 .work4 .given, c15 .work3 .given, c22 .work2 .given, c29 .work .given))
+    let after-work4 = c .before .before .before .before .before .before .before .before in
+    let after-work3 = after-work4 .before .before .before .before .before .before .before in
+    let after-work2 = after-work3 .before .before .before .before .before .before .before in
+    let after-work = after-work2 .before .before .before .before .before .before .before in
+    omega (arith, c .before .work5 .given, after-work4 .work4 .given, after-work3 .work3 .given, after-work2 .work2 .given, after-work .work .given))
     (λ c.
-    let c4 = c .before .before .before .before in
-    let c11 = c4 .before .before .before .before .before .before .before in
-    let c18 = c11 .before .before .before .before .before .before .before in
-    let c25 = c18 .before .before .before .before .before .before .before in
-    let c32 = c25 .before .before .before .before .before .before .before in
-    performs-then (c32 .union .ensures) (performs-then (c25 .union2 .ensures)
-    (performs-then (c18 .union3 .ensures) (performs-then (c11 .union4 .ensures) (c4 .mk .ensures))))))
+    let after-mk = c .before .before .before .before in
+    let after-union4 = after-mk .before .before .before .before .before .before .before in
+    let after-union3 = after-union4 .before .before .before .before .before .before .before in
+    let after-union2 = after-union3 .before .before .before .before .before .before .before in
+    let after-union = after-union2 .before .before .before .before .before .before .before in
+    performs-then (after-union .union .ensures) (performs-then (after-union2 .union2 .ensures)
+    (performs-then (after-union3 .union3 .ensures) (performs-then (after-union4 .union4 .ensures) (after-mk .mk .ensures))))))

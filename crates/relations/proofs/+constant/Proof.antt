@@ -54,32 +54,32 @@ pub +constant-spec : {M : Type 1} → statement M
     (λ c κs. search needs)
     (λ c. search needs)
     (λ c.
-    let c4 = c .before .before .before .before in
-    let c7 = c4 .before .before .before in
-    given (not-false _ (c7 .if1 .left)) (recalled _ _ _ _ (constant-memo _ _ _) begin (c4 .recall .ensures) (c .before .before .found .given .1))
+    let after-recall = c .before .before .before .before in
+    let at-if1 = after-recall .before .before .before in
+    given (not-false _ (at-if1 .if1 .left)) (recalled _ _ _ _ (constant-memo _ _ _) begin (after-recall .recall .ensures) (c .before .before .found .given .1))
     (c .with-handle2 .ensures))
     (λ c. search needs)
     (λ c. search needs)
     (λ c κs.
-    let c6 = c .before .before .before .before .before .before in
-    let c11 = c6 .before .before .before .before .before in
-    (omega (arith, c11 .pre .0, c6 .if2 .left), tt))
+    let at-if2 = c .before .before .before .before .before .before in
+    let entry = at-if2 .before .before .before .before .before in
+    (omega (arith, entry .pre .0, at-if2 .if2 .left), tt))
     (λ c κs. search needs)
     (λ c κs. search needs)
     (λ c.
-    let c7 = c .before .before .before .before .before .before .before in
-    let c14 = c7 .before .before .before .before .before .before .before in
-    omega (arith, c7 .nodes2 .given, c14 .nodes .given))
+    let after-nodes2 = c .before .before .before .before .before .before .before in
+    let after-nodes = after-nodes2 .before .before .before .before .before .before .before in
+    omega (arith, after-nodes2 .nodes2 .given, after-nodes .nodes .given))
     (λ c.
-    let c5 = c .before .before .before .before .before in
-    let c12 = c5 .before .before .before .before .before .before .before in
-    omega (arith, c .before .work3 .given, c5 .work2 .given, c12 .work .given))
+    let after-work2 = c .before .before .before .before .before in
+    let after-work = after-work2 .before .before .before .before .before .before .before in
+    omega (arith, c .before .work3 .given, after-work2 .work2 .given, after-work .work .given))
     (λ c.
-    let c8 = c .before .before .before .before .before .before .before .before in
-    let c15 = c8 .before .before .before .before .before .before .before in
-    let c22 = c15 .before .before .before .before .before .before .before in
-    let c23 = c22 .before in
-    let c27 = c23 .before .before .before .before in
-    called-kept 21 _ _ _ (not-false _ (c23 .if1 .left)) (omega (arith, c27 .fits .level .fits)) (constant-memo _ _ _) begin
-    (performs-by (constant-step rel _ _ (c22 .if2 .left)) (performs-then (c15 .constant .ensures) (c8 .mk .ensures)))
+    let after-mk = c .before .before .before .before .before .before .before .before in
+    let after-constant = after-mk .before .before .before .before .before .before .before in
+    let at-if2 = after-constant .before .before .before .before .before .before .before in
+    let at-if1 = at-if2 .before in
+    let entry = at-if1 .before .before .before .before in
+    called-kept 21 _ _ _ (not-false _ (at-if1 .if1 .left)) (omega (arith, entry .fits .level .fits)) (constant-memo _ _ _) begin
+    (performs-by (constant-step rel _ _ (at-if2 .if2 .left)) (performs-then (after-constant .constant .ensures) (after-mk .mk .ensures)))
     (c .before .before .remember .ensures)))

@@ -62,10 +62,10 @@ unfolding difference-program
     (λ c. search needs)
     (λ c. search needs)
     (λ c.
-    let c4 = c .before .before .before .before in
-    let c7 = c4 .before .before .before in
-    let c8 = c7 .before in
-    called (not-false _ (c8 .if1 .left)) (equal (difference-is _ _ _) (c7 .if2 .taken)) (c4 .zero-at-depth .ensures))
+    let after-zero-at-depth = c .before .before .before .before in
+    let at-if2 = after-zero-at-depth .before .before .before in
+    let at-if1 = at-if2 .before in
+    called (not-false _ (at-if1 .if1 .left)) (equal (difference-is _ _ _) (at-if2 .if2 .taken)) (after-zero-at-depth .zero-at-depth .ensures))
     (λ c κs. search needs)
     (λ c. search needs)
     (λ c κs. search needs)
@@ -75,82 +75,100 @@ unfolding difference-program
     (λ c. search needs)
     (λ c. search needs)
     (λ c.
-    let c4 = c .before .before .before .before in
-    let c7 = c4 .before .before .before in
-    let c8 = c7 .before in
-    impossible (not-false _ (c8 .if1 .left))
-    (by (further (differ (difference-is _ _ _) (c7 .if2 .left)) (node-left (c4 .difference-tests .ensures) (c .before .before .found3 .given .1)))
-    (node2-zero difference-op _ _ _ (c .if3 .taken))))
+    let after-difference-tests = c .before .before .before .before in
+    let at-if2 = after-difference-tests .before .before .before in
+    let at-if1 = at-if2 .before in
+    impossible (not-false _ (at-if1 .if1 .left))
+    (by (further (differ (difference-is _ _ _) (at-if2 .if2 .left))
+    (node-left (after-difference-tests .difference-tests .ensures) (c .before .before .found3 .given .1))) (node2-zero difference-op _ _ _ (c .if3 .taken))))
     (λ c κs. search needs)
     (λ c κs. search needs)
     (λ c. search needs)
     (λ c κs.
-    let c6 = c .before .before .before .before .before .before in
-    let c18 = c6 .before .before .before .before .before .before .before .before .before .before .before .before in
-    (omega (arith, c18 .pre .0, c6 .if3 .left), tt))
+    let at-if3 = c .before .before .before .before .before .before in
+    let entry = at-if3 .before .before .before .before .before .before .before .before .before .before .before .before in
+    (omega (arith, entry .pre .0, at-if3 .if3 .left), tt))
     (λ c κs.
-    let c13 = c .before .before .before .before .before .before .before .before .before .before .before .before .before in
-    let c25 = c13 .before .before .before .before .before .before .before .before .before .before .before .before in
-    (omega (arith, c25 .pre .0, c13 .if3 .left), tt))
+    let at-if3 = c .before .before .before .before .before .before .before .before .before .before .before .before .before in
+    let entry = at-if3 .before .before .before .before .before .before .before .before .before .before .before .before in
+    (omega (arith, entry .pre .0, at-if3 .if3 .left), tt))
     (λ c κs.
-    let c14 = c .before .before .before .before .before .before .before .before .before .before .before .before .before .before in
-    let c20 = c14 .before .before .before .before .before .before in
-    let c32 = c20 .before .before .before .before .before .before .before .before .before .before .before .before in
-    (omega (arith, c32 .pre .0, c20 .if3 .left), tt))
+    let after-difference-arg2 = c .before .before .before .before .before .before .before .before .before .before .before .before .before .before in
+    let at-if3 = after-difference-arg2 .before .before .before .before .before .before in
+    let entry = at-if3 .before .before .before .before .before .before .before .before .before .before .before .before in
+    (omega (arith, entry .pre .0, at-if3 .if3 .left), tt))
     (λ c κs.
-    let c14 = c .before .before .before .before .before .before .before .before .before .before .before .before .before .before in
-    let c27 = c14 .before .before .before .before .before .before .before .before .before .before .before .before .before in
-    let c39 = c27 .before .before .before .before .before .before .before .before .before .before .before .before in
-    (omega (arith, c39 .pre .0, c27 .if3 .left), tt))
+    let after-difference-arg4 = c .before .before .before .before .before .before .before .before .before .before .before .before .before .before in
+    let at-if3 = after-difference-arg4 .before .before .before .before .before .before .before .before .before .before .before .before .before in
+    let entry = at-if3 .before .before .before .before .before .before .before .before .before .before .before .before in
+    (omega (arith, entry .pre .0, at-if3 .if3 .left), tt))
     (λ c κs. search needs)
     (λ c κs. search needs)
     (λ c. search needs)
     (λ c. search needs)
     (λ c.
-    let c4 = c .before .before .before .before in
-    let c7 = c4 .before .before .before in
-    let c8 = c7 .before in
-    given (not-false _ (c8 .if1 .left)) (further (differ (difference-is _ _ _) (c7 .if2 .left))
-    (answer-left (c4 .difference-tests .ensures) (c .before .before .found .given .1))) (c .with-handle .ensures))
+    let after-difference-tests = c .before .before .before .before in
+    let at-if2 = after-difference-tests .before .before .before in
+    let at-if1 = at-if2 .before in
+    given (not-false _ (at-if1 .if1 .left)) (further (differ (difference-is _ _ _) (at-if2 .if2 .left))
+    (answer-left (after-difference-tests .difference-tests .ensures) (c .before .before .found .given .1))) (c .with-handle .ensures))
     (λ c. search needs)
     (λ c. search needs)
     (λ c.
-    let c4 = c .before .before .before .before in
-    let c8 = c4 .before .before .before .before in
-    let c10 = c8 .before .before in
-    let c13 = c10 .before .before .before in
-    let c14 = c13 .before in
-    called (not-false _ (c14 .if1 .left))
-    (further (differ (difference-is _ _ _) (c13 .if2 .left)) (other-left (c10 .difference-tests .ensures) (c8 .found2 .given .1))) (c4 .complement .ensures))
+    let after-complement = c .before .before .before .before in
+    let after-found2 = after-complement .before .before .before .before in
+    let after-difference-tests = after-found2 .before .before in
+    let at-if2 = after-difference-tests .before .before .before in
+    let at-if1 = at-if2 .before in
+    called (not-false _ (at-if1 .if1 .left))
+    (further (differ (difference-is _ _ _) (at-if2 .if2 .left))
+    (other-left (after-difference-tests .difference-tests .ensures) (after-found2 .found2 .given .1))) (after-complement .complement .ensures))
     (λ c.
-    let c7 = c .before .before .before .before .before .before .before in
-    let c14 = c7 .before .before .before .before .before .before .before in
-    let c21 = c14 .before .before .before .before .before .before .before in
-    let c28 = c21 .before .before .before .before .before .before .before in
-    let c35 = c28 .before .before .before .before .before .before .before in
-    omega (arith, c7 .nodes7 .given, c14 .nodes6 .given, c21 .nodes5 .given, c28 .nodes4 .given, c35 .nodes3 .given))
+    let after-nodes7 = c .before .before .before .before .before .before .before in
+    let after-nodes6 = after-nodes7 .before .before .before .before .before .before .before in
+    let after-nodes5 = after-nodes6 .before .before .before .before .before .before .before in
+    let after-nodes4 = after-nodes5 .before .before .before .before .before .before .before in
+    let after-nodes3 = after-nodes4 .before .before .before .before .before .before .before in
+    omega (
+      arith,
+      after-nodes7 .nodes7 .given,
+      after-nodes6 .nodes6 .given,
+      after-nodes5 .nodes5 .given,
+      after-nodes4 .nodes4 .given,
+      after-nodes3 .nodes3 .given,
+    ))
     (λ c.
-    let c5 = c .before .before .before .before .before in
-    let c12 = c5 .before .before .before .before .before .before .before in
-    let c19 = c12 .before .before .before .before .before .before .before in
-    let c26 = c19 .before .before .before .before .before .before .before in
-    let c33 = c26 .before .before .before .before .before .before .before in
-    omega (arith, c .before .work8 .given, c5 .work7 .given, c12 .work6 .given, c19 .work5 .given, c26 .work4 .given, c33 .work3 .given))
+    let after-work7 = c .before .before .before .before .before in
+    let after-work6 = after-work7 .before .before .before .before .before .before .before in
+    let after-work5 = after-work6 .before .before .before .before .before .before .before in
+    let after-work4 = after-work5 .before .before .before .before .before .before .before in
+    let after-work3 = after-work4 .before .before .before .before .before .before .before in
+    omega (
+      arith,
+      c .before .work8 .given,
+      after-work7 .work7 .given,
+      after-work6 .work6 .given,
+      after-work5 .work5 .given,
+      after-work4 .work4 .given,
+      after-work3 .work3 .given,
+    ))
     (λ c.
-    let c8 = c .before .before .before .before .before .before .before .before in
-    let c15 = c8 .before .before .before .before .before .before .before in
-    let c22 = c15 .before .before .before .before .before .before .before in
-    let c29 = c22 .before .before .before .before .before .before .before in
-    let c36 = c29 .before .before .before .before .before .before .before in
-    let c39 = c36 .before .before .before in
-    let c41 = c39 .before .before in
-    let c43 = c41 .before .before in
-    let c45 = c43 .before .before in
-    let c47 = c45 .before .before in
-    let c50 = c47 .before .before .before in
-    let c51 = c50 .before in
-    let c55 = c51 .before .before .before .before in
-    four-returns 7 _ _ _ (not-false _ (c51 .if1 .left)) (omega (arith, c55 .fits .level .fits)) (difference-memo _ _ _)
-    (further (differ (difference-is _ _ _) (c50 .if2 .left)) (node-left (c47 .difference-tests .ensures) (c45 .found3 .given .1)))
-    (opened2 _ _ _ _ _ (c43 .if3 .left) (c41 .get .ensures) (c39 .get2 .ensures)) (c36 .difference .ensures) (c29 .difference2 .ensures)
-    (c22 .difference3 .ensures) (c15 .difference4 .ensures) (c8 .mk .ensures) (c .before .before .remember .ensures)))
+    let after-mk = c .before .before .before .before .before .before .before .before in
+    let after-difference4 = after-mk .before .before .before .before .before .before .before in
+    let after-difference3 = after-difference4 .before .before .before .before .before .before .before in
+    let after-difference2 = after-difference3 .before .before .before .before .before .before .before in
+    let after-difference = after-difference2 .before .before .before .before .before .before .before in
+    let after-get2 = after-difference .before .before .before in
+    let after-get = after-get2 .before .before in
+    let at-if3 = after-get .before .before in
+    let after-found3 = at-if3 .before .before in
+    let after-difference-tests = after-found3 .before .before in
+    let at-if2 = after-difference-tests .before .before .before in
+    let at-if1 = at-if2 .before in
+    let entry = at-if1 .before .before .before .before in
+    four-returns 7 _ _ _ (not-false _ (at-if1 .if1 .left)) (omega (arith, entry .fits .level .fits)) (difference-memo _ _ _)
+    (further (differ (difference-is _ _ _) (at-if2 .if2 .left))
+    (node-left (after-difference-tests .difference-tests .ensures) (after-found3 .found3 .given .1)))
+    (opened2 _ _ _ _ _ (at-if3 .if3 .left) (after-get .get .ensures) (after-get2 .get2 .ensures)) (after-difference .difference .ensures)
+    (after-difference2 .difference2 .ensures)
+    (after-difference3 .difference3 .ensures) (after-difference4 .difference4 .ensures) (after-mk .mk .ensures) (c .before .before .remember .ensures)))

@@ -62,9 +62,9 @@ unfolding intersect-program
     (λ c. search needs)
     (λ c. search needs)
     (λ c.
-    let c5 = c .before .before .before .before .before in
-    let c6 = c5 .before in
-    given (not-false _ (c6 .if1 .left)) (yes (differ (intersect-is _ _ _) (c5 .if2 .left))
+    let at-if2 = c .before .before .before .before .before in
+    let at-if1 = at-if2 .before in
+    given (not-false _ (at-if1 .if1 .left)) (yes (differ (intersect-is _ _ _) (at-if2 .if2 .left))
     (empty-says (c .before .before .relation-properties .ensures) (c .before .if3 .taken))) (c .with-handle2 .ensures))
     (λ c κs. search needs)
     (λ c κs. search needs)
@@ -74,90 +74,110 @@ unfolding intersect-program
     (λ c. search needs)
     (λ c. search needs)
     (λ c.
-    let c4 = c .before .before .before .before in
-    let c6 = c4 .before .before in
-    let c9 = c6 .before .before .before in
-    let c10 = c9 .before in
-    let c13 = c10 .before .before .before in
-    let c14 = c13 .before in
-    impossible (not-false _ (c14 .if1 .left))
-    (by (further (no (differ (intersect-is _ _ _) (c13 .if2 .left)) (empty-says (c10 .relation-properties .ensures) (c9 .if3 .left)))
-    (node-reduces (c4 .lattice-tests .ensures (node2 intersect-op _) _ (intersect-memo _) (c10 .relation-properties .ensures)
-    (c6 .relation-properties2 .ensures)) (c .before .before .found2 .given .1))) (node2-zero intersect-op _ _ _ (c .if4 .taken))))
+    let after-lattice-tests = c .before .before .before .before in
+    let after-relation-properties2 = after-lattice-tests .before .before in
+    let at-if3 = after-relation-properties2 .before .before .before in
+    let after-relation-properties = at-if3 .before in
+    let at-if2 = after-relation-properties .before .before .before in
+    let at-if1 = at-if2 .before in
+    impossible (not-false _ (at-if1 .if1 .left))
+    (by (further (no (differ (intersect-is _ _ _) (at-if2 .if2 .left))
+    (empty-says (after-relation-properties .relation-properties .ensures) (at-if3 .if3 .left)))
+    (node-reduces (after-lattice-tests .lattice-tests .ensures (node2 intersect-op _) _ (intersect-memo _)
+    (after-relation-properties .relation-properties .ensures)
+    (after-relation-properties2 .relation-properties2 .ensures)) (c .before .before .found2 .given .1))) (node2-zero intersect-op _ _ _ (c .if4 .taken))))
     (λ c κs. search needs)
     (λ c κs. search needs)
     (λ c. search needs)
     (λ c κs.
-    let c6 = c .before .before .before .before .before .before in
-    let c20 = c6 .before .before .before .before .before .before .before .before .before .before .before .before .before .before in
-    let c24 = c20 .before .before .before .before in
-    (omega (arith, c24 .pre .0, c6 .if4 .left), tt))
+    let at-if4 = c .before .before .before .before .before .before in
+    let at-if1 = at-if4 .before .before .before .before .before .before .before .before .before .before .before .before .before .before in
+    let entry = at-if1 .before .before .before .before in
+    (omega (arith, entry .pre .0, at-if4 .if4 .left), tt))
     (λ c κs.
-    let c13 = c .before .before .before .before .before .before .before .before .before .before .before .before .before in
-    let c27 = c13 .before .before .before .before .before .before .before .before .before .before .before .before .before .before in
-    let c31 = c27 .before .before .before .before in
-    (omega (arith, c31 .pre .0, c13 .if4 .left), tt))
+    let at-if4 = c .before .before .before .before .before .before .before .before .before .before .before .before .before in
+    let at-if1 = at-if4 .before .before .before .before .before .before .before .before .before .before .before .before .before .before in
+    let entry = at-if1 .before .before .before .before in
+    (omega (arith, entry .pre .0, at-if4 .if4 .left), tt))
     (λ c κs.
-    let c14 = c .before .before .before .before .before .before .before .before .before .before .before .before .before .before in
-    let c20 = c14 .before .before .before .before .before .before in
-    let c34 = c20 .before .before .before .before .before .before .before .before .before .before .before .before .before .before in
-    let c38 = c34 .before .before .before .before in
-    (omega (arith, c38 .pre .0, c20 .if4 .left), tt))
+    let after-intersect-arg2 = c .before .before .before .before .before .before .before .before .before .before .before .before .before .before in
+    let at-if4 = after-intersect-arg2 .before .before .before .before .before .before in
+    let at-if1 = at-if4 .before .before .before .before .before .before .before .before .before .before .before .before .before .before in
+    let entry = at-if1 .before .before .before .before in
+    (omega (arith, entry .pre .0, at-if4 .if4 .left), tt))
     (λ c κs.
-    let c14 = c .before .before .before .before .before .before .before .before .before .before .before .before .before .before in
-    let c27 = c14 .before .before .before .before .before .before .before .before .before .before .before .before .before in
-    let c41 = c27 .before .before .before .before .before .before .before .before .before .before .before .before .before .before in
-    let c45 = c41 .before .before .before .before in
-    (omega (arith, c45 .pre .0, c27 .if4 .left), tt))
+    let after-intersect-arg4 = c .before .before .before .before .before .before .before .before .before .before .before .before .before .before in
+    let at-if4 = after-intersect-arg4 .before .before .before .before .before .before .before .before .before .before .before .before .before in
+    let at-if1 = at-if4 .before .before .before .before .before .before .before .before .before .before .before .before .before .before in
+    let entry = at-if1 .before .before .before .before in
+    (omega (arith, entry .pre .0, at-if4 .if4 .left), tt))
     (λ c κs. search needs)
     (λ c κs. search needs)
     (λ c. search needs)
     (λ c. search needs)
     (λ c.
-    let c4 = c .before .before .before .before in
-    let c6 = c4 .before .before in
-    let c9 = c6 .before .before .before in
-    let c10 = c9 .before in
-    let c13 = c10 .before .before .before in
-    let c14 = c13 .before in
-    given (not-false _ (c14 .if1 .left)) (further
-    (no (differ (intersect-is _ _ _) (c13 .if2 .left)) (empty-says (c10 .relation-properties .ensures) (c9 .if3 .left)))
-    (answer-reduces (c4 .lattice-tests .ensures (node2 intersect-op _) _ (intersect-memo _) (c10 .relation-properties .ensures)
-    (c6 .relation-properties2 .ensures)) (c .before .before .found .given .1))) (c .with-handle3 .ensures))
+    let after-lattice-tests = c .before .before .before .before in
+    let after-relation-properties2 = after-lattice-tests .before .before in
+    let at-if3 = after-relation-properties2 .before .before .before in
+    let after-relation-properties = at-if3 .before in
+    let at-if2 = after-relation-properties .before .before .before in
+    let at-if1 = at-if2 .before in
+    given (not-false _ (at-if1 .if1 .left)) (further
+    (no (differ (intersect-is _ _ _) (at-if2 .if2 .left)) (empty-says (after-relation-properties .relation-properties .ensures) (at-if3 .if3 .left)))
+    (answer-reduces (after-lattice-tests .lattice-tests .ensures (node2 intersect-op _) _ (intersect-memo _)
+    (after-relation-properties .relation-properties .ensures)
+    (after-relation-properties2 .relation-properties2 .ensures)) (c .before .before .found .given .1))) (c .with-handle3 .ensures))
     (λ c.
-    let c7 = c .before .before .before .before .before .before .before in
-    let c14 = c7 .before .before .before .before .before .before .before in
-    let c21 = c14 .before .before .before .before .before .before .before in
-    let c28 = c21 .before .before .before .before .before .before .before in
-    let c35 = c28 .before .before .before .before .before .before .before in
-    omega (arith, c7 .nodes5 .given, c14 .nodes4 .given, c21 .nodes3 .given, c28 .nodes2 .given, c35 .nodes .given))
+    let after-nodes5 = c .before .before .before .before .before .before .before in
+    let after-nodes4 = after-nodes5 .before .before .before .before .before .before .before in
+    let after-nodes3 = after-nodes4 .before .before .before .before .before .before .before in
+    let after-nodes2 = after-nodes3 .before .before .before .before .before .before .before in
+    let after-nodes = after-nodes2 .before .before .before .before .before .before .before in
+    omega (
+      arith,
+      after-nodes5 .nodes5 .given,
+      after-nodes4 .nodes4 .given,
+      after-nodes3 .nodes3 .given,
+      after-nodes2 .nodes2 .given,
+      after-nodes .nodes .given,
+    ))
     (λ c.
-    let c5 = c .before .before .before .before .before in
-    let c12 = c5 .before .before .before .before .before .before .before in
-    let c19 = c12 .before .before .before .before .before .before .before in
-    let c26 = c19 .before .before .before .before .before .before .before in
-    let c33 = c26 .before .before .before .before .before .before .before in
-    omega (arith, c .before .work6 .given, c5 .work5 .given, c12 .work4 .given, c19 .work3 .given, c26 .work2 .given, c33 .work .given))
+    let after-work5 = c .before .before .before .before .before in
+    let after-work4 = after-work5 .before .before .before .before .before .before .before in
+    let after-work3 = after-work4 .before .before .before .before .before .before .before in
+    let after-work2 = after-work3 .before .before .before .before .before .before .before in
+    let after-work = after-work2 .before .before .before .before .before .before .before in
+    omega (
+      arith,
+      c .before .work6 .given,
+      after-work5 .work5 .given,
+      after-work4 .work4 .given,
+      after-work3 .work3 .given,
+      after-work2 .work2 .given,
+      after-work .work .given,
+    ))
     (λ c.
-    let c8 = c .before .before .before .before .before .before .before .before in
-    let c15 = c8 .before .before .before .before .before .before .before in
-    let c22 = c15 .before .before .before .before .before .before .before in
-    let c29 = c22 .before .before .before .before .before .before .before in
-    let c36 = c29 .before .before .before .before .before .before .before in
-    let c39 = c36 .before .before .before in
-    let c41 = c39 .before .before in
-    let c43 = c41 .before .before in
-    let c45 = c43 .before .before in
-    let c47 = c45 .before .before in
-    let c49 = c47 .before .before in
-    let c52 = c49 .before .before .before in
-    let c53 = c52 .before in
-    let c56 = c53 .before .before .before in
-    let c57 = c56 .before in
-    let c61 = c57 .before .before .before .before in
-    four-returns 5 _ _ _ (not-false _ (c57 .if1 .left)) (omega (arith, c61 .fits .level .fits)) (intersect-memo _ _ _)
-    (further (no (differ (intersect-is _ _ _) (c56 .if2 .left)) (empty-says (c53 .relation-properties .ensures) (c52 .if3 .left)))
-    (node-reduces (c47 .lattice-tests .ensures (node2 intersect-op _) _ (intersect-memo _) (c53 .relation-properties .ensures)
-    (c49 .relation-properties2 .ensures)) (c45 .found2 .given .1))) (opened2 _ _ _ _ _ (c43 .if4 .left) (c41 .get .ensures) (c39 .get2 .ensures))
-    (c36 .intersect .ensures) (c29 .intersect2 .ensures) (c22 .intersect3 .ensures) (c15 .intersect4 .ensures) (c8 .mk .ensures)
-    (c .before .before .remember .ensures)))
+    let after-mk = c .before .before .before .before .before .before .before .before in
+    let after-intersect4 = after-mk .before .before .before .before .before .before .before in
+    let after-intersect3 = after-intersect4 .before .before .before .before .before .before .before in
+    let after-intersect2 = after-intersect3 .before .before .before .before .before .before .before in
+    let after-intersect = after-intersect2 .before .before .before .before .before .before .before in
+    let after-get2 = after-intersect .before .before .before in
+    let after-get = after-get2 .before .before in
+    let at-if4 = after-get .before .before in
+    let after-found2 = at-if4 .before .before in
+    let after-lattice-tests = after-found2 .before .before in
+    let after-relation-properties2 = after-lattice-tests .before .before in
+    let at-if3 = after-relation-properties2 .before .before .before in
+    let after-relation-properties = at-if3 .before in
+    let at-if2 = after-relation-properties .before .before .before in
+    let at-if1 = at-if2 .before in
+    let entry = at-if1 .before .before .before .before in
+    four-returns 5 _ _ _ (not-false _ (at-if1 .if1 .left)) (omega (arith, entry .fits .level .fits)) (intersect-memo _ _ _)
+    (further (no (differ (intersect-is _ _ _) (at-if2 .if2 .left)) (empty-says (after-relation-properties .relation-properties .ensures) (at-if3 .if3 .left)))
+    (node-reduces (after-lattice-tests .lattice-tests .ensures (node2 intersect-op _) _ (intersect-memo _)
+    (after-relation-properties .relation-properties .ensures)
+    (after-relation-properties2 .relation-properties2 .ensures)) (after-found2 .found2 .given .1)))
+    (opened2 _ _ _ _ _ (at-if4 .if4 .left) (after-get .get .ensures) (after-get2 .get2 .ensures))
+    (after-intersect .intersect .ensures) (after-intersect2 .intersect2 .ensures) (after-intersect3 .intersect3 .ensures)
+    (after-intersect4 .intersect4 .ensures) (after-mk .mk .ensures) (c .before .before .remember .ensures)))

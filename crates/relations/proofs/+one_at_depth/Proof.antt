@@ -55,38 +55,38 @@ pub +one-at-depth-spec : {M : Type 1} → statement M
     (λ c κs. search needs)
     (λ c. search needs)
     (λ c.
-    let c4 = c .before .before .before .before in
-    let c7 = c4 .before .before .before in
-    given (not-false _ (c7 .if1 .left)) (recalled _ _ 0 0 (identity-memo _ _ _) begin (c4 .recall .ensures) (c .before .before .found .given .1))
+    let after-recall = c .before .before .before .before in
+    let at-if1 = after-recall .before .before .before in
+    given (not-false _ (at-if1 .if1 .left)) (recalled _ _ 0 0 (identity-memo _ _ _) begin (after-recall .recall .ensures) (c .before .before .found .given .1))
     (c .with-handle2 .ensures))
     (λ c. search needs)
     (λ c. search needs)
     (λ c κs.
-    let c6 = c .before .before .before .before .before .before in
-    let c11 = c6 .before .before .before .before .before in
-    (omega (arith, c11 .pre .0, c6 .if2 .left), tt))
+    let at-if2 = c .before .before .before .before .before .before in
+    let entry = at-if2 .before .before .before .before .before in
+    (omega (arith, entry .pre .0, at-if2 .if2 .left), tt))
     (λ c. search needs)
     (λ c κs. search needs)
     (λ c κs. search needs)
     (λ c κs. search needs)
     (λ c.
-    let c7 = c .before .before .before .before .before .before .before in
-    let c14 = c7 .before .before .before .before .before .before .before in
-    let c21 = c14 .before .before .before .before .before .before .before in
-    omega (arith, c7 .nodes3 .given, c14 .nodes2 .given, c21 .nodes .given))
+    let after-nodes3 = c .before .before .before .before .before .before .before in
+    let after-nodes2 = after-nodes3 .before .before .before .before .before .before .before in
+    let after-nodes = after-nodes2 .before .before .before .before .before .before .before in
+    omega (arith, after-nodes3 .nodes3 .given, after-nodes2 .nodes2 .given, after-nodes .nodes .given))
     (λ c.
-    let c5 = c .before .before .before .before .before in
-    let c12 = c5 .before .before .before .before .before .before .before in
-    let c19 = c12 .before .before .before .before .before .before .before in
-    omega (arith, c .before .work4 .given, c5 .work3 .given, c12 .work2 .given, c19 .work .given))
+    let after-work3 = c .before .before .before .before .before in
+    let after-work2 = after-work3 .before .before .before .before .before .before .before in
+    let after-work = after-work2 .before .before .before .before .before .before .before in
+    omega (arith, c .before .work4 .given, after-work3 .work3 .given, after-work2 .work2 .given, after-work .work .given))
     (λ c.
-    let c8 = c .before .before .before .before .before .before .before .before in
-    let c15 = c8 .before .before .before .before .before .before .before in
-    let c22 = c15 .before .before .before .before .before .before .before in
-    let c29 = c22 .before .before .before .before .before .before .before in
-    let c30 = c29 .before in
-    let c34 = c30 .before .before .before .before in
-    called-kept 22 _ 0 0 (not-false _ (c30 .if1 .left)) (omega (arith, c34 .fits .level .fits)) (identity-memo _ _ _) begin
-    (performs-by (identity-step _ (c29 .if2 .left))
-    (performs-then (c22 .one-at-depth .ensures) (performs-then (c15 .zero-at-depth .ensures) (c8 .mk .ensures))))
+    let after-mk = c .before .before .before .before .before .before .before .before in
+    let after-zero-at-depth = after-mk .before .before .before .before .before .before .before in
+    let after-one-at-depth = after-zero-at-depth .before .before .before .before .before .before .before in
+    let at-if2 = after-one-at-depth .before .before .before .before .before .before .before in
+    let at-if1 = at-if2 .before in
+    let entry = at-if1 .before .before .before .before in
+    called-kept 22 _ 0 0 (not-false _ (at-if1 .if1 .left)) (omega (arith, entry .fits .level .fits)) (identity-memo _ _ _) begin
+    (performs-by (identity-step _ (at-if2 .if2 .left))
+    (performs-then (after-one-at-depth .one-at-depth .ensures) (performs-then (after-zero-at-depth .zero-at-depth .ensures) (after-mk .mk .ensures))))
     (c .before .before .remember .ensures)))

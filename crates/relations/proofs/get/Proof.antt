@@ -13,5 +13,5 @@ get-spec =
     (λ c κs. search needs)
     (λ c κs. search needs)
     (λ c.
-    let c3 = c .before .before .before in
-    reads-four (c3 .child-of .ensures) (c .before .before .child-of2 .ensures) (c .before .child-of3 .ensures) (c .child-of4 .ensures)))
+    let after-child-of = c .before .before .before in
+    reads-four (after-child-of .child-of .ensures) (c .before .before .child-of2 .ensures) (c .before .child-of3 .ensures) (c .child-of4 .ensures)))

@@ -37,7 +37,7 @@ pub +constant-spec : {M : Type 1} → statement M
     (λ c. search needs)
     (λ c. search needs)
     (λ c.
-    let c4 = c .before .before .before .before in
-    let c11 = c4 .before .before .before .before .before .before .before in
-    let c14 = c11 .before .before .before in
-    performs-by (constant-step set _ _ (c14 .if1 .left)) (performs-then (c11 .constant .ensures) (c4 .mk .ensures))))
+    let after-mk = c .before .before .before .before in
+    let after-constant = after-mk .before .before .before .before .before .before .before in
+    let at-if1 = after-constant .before .before .before in
+    performs-by (constant-step set _ _ (at-if1 .if1 .left)) (performs-then (after-constant .constant .ensures) (after-mk .mk .ensures))))

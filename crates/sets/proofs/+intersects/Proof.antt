@@ -54,60 +54,62 @@ pub +intersects-spec : {M : Type 1} → statement M
     (λ c. search needs)
     (λ c. search needs)
     (λ c.
-    let c4 = c .before .before .before .before in
-    let c6 = c4 .before .before in
-    impossible (not-false _ (c6 .if1 .left)) (by (further (by begin (intersects-is _ _ _))
-    (node-reduces (c4 .intersects-tests .ensures) (c .before .before .found2 .given .1))) (node2-zero intersects-op _ _ _ (c .if2 .taken))))
+    let after-intersects-tests = c .before .before .before .before in
+    let at-if1 = after-intersects-tests .before .before in
+    impossible (not-false _ (at-if1 .if1 .left)) (by (further (by begin (intersects-is _ _ _))
+    (node-reduces (after-intersects-tests .intersects-tests .ensures) (c .before .before .found2 .given .1))) (node2-zero intersects-op _ _ _ (c .if2 .taken))))
     (λ c κs. search needs)
     (λ c κs. search needs)
     (λ c. search needs)
     (λ c κs.
-    let c3 = c .before .before .before in
-    let c13 = c3 .before .before .before .before .before .before .before .before .before .before in
-    (omega (arith, c13 .pre .0, c3 .if2 .left), tt))
+    let at-if2 = c .before .before .before in
+    let entry = at-if2 .before .before .before .before .before .before .before .before .before .before in
+    (omega (arith, entry .pre .0, at-if2 .if2 .left), tt))
     (λ c κs. search needs)
     (λ c κs. search needs)
     (λ c. search needs)
     (λ c.
-    let c4 = c .before .before .before .before in
-    let c5 = c4 .before in
-    let c9 = c5 .before .before .before .before in
-    let c11 = c9 .before .before in
-    let c12 = c11 .before in
-    let c13 = c12 .before in
-    let c15 = c13 .before .before in
-    let c17 = c15 .before .before in
-    let c19 = c17 .before .before in
-    let c23 = c19 .before .before .before .before in
-    meet-returns _ _ _ (not-false _ (c19 .if1 .left)) (omega (arith, c23 .fits .level .fits)) (c13 .if2 .left)
-    (further (by begin (intersects-is _ _ _)) (node-reduces (c17 .intersects-tests .ensures) (c15 .found2 .given .1))) (c12 .get .ensures)
-    (c11 .get2 .ensures) (c9 .intersects .ensures) (performs-same _ 1 (eq-eqb _ _ (c5 .if3 .taken)) (performs-ret 1 (c4 .with-handle2 .ensures)))
-    (c .before .before .remember .ensures))
+    let after-with-handle2 = c .before .before .before .before in
+    let at-if3 = after-with-handle2 .before in
+    let after-intersects = at-if3 .before .before .before .before in
+    let after-get2 = after-intersects .before .before in
+    let after-get = after-get2 .before in
+    let at-if2 = after-get .before in
+    let after-found2 = at-if2 .before .before in
+    let after-intersects-tests = after-found2 .before .before in
+    let at-if1 = after-intersects-tests .before .before in
+    let entry = at-if1 .before .before .before .before in
+    meet-returns _ _ _ (not-false _ (at-if1 .if1 .left)) (omega (arith, entry .fits .level .fits)) (at-if2 .if2 .left)
+    (further (by begin (intersects-is _ _ _)) (node-reduces (after-intersects-tests .intersects-tests .ensures) (after-found2 .found2 .given .1)))
+    (after-get .get .ensures)
+    (after-get2 .get2 .ensures) (after-intersects .intersects .ensures)
+    (performs-same _ 1 (eq-eqb _ _ (at-if3 .if3 .taken)) (performs-ret 1 (after-with-handle2 .with-handle2 .ensures))) (c .before .before .remember .ensures))
     (λ c. search needs)
     (λ c κs.
-    let c9 = c .before .before .before .before .before .before .before .before .before in
-    let c19 = c9 .before .before .before .before .before .before .before .before .before .before in
-    (omega (arith, c19 .pre .0, c9 .if2 .left), tt))
+    let at-if2 = c .before .before .before .before .before .before .before .before .before in
+    let entry = at-if2 .before .before .before .before .before .before .before .before .before .before in
+    (omega (arith, entry .pre .0, at-if2 .if2 .left), tt))
     (λ c κs. search needs)
     (λ c. search needs)
     (λ c.
-    let c4 = c .before .before .before .before in
-    let c6 = c4 .before .before in
-    given (not-false _ (c6 .if1 .left)) (further (by begin (intersects-is _ _ _))
-    (answer-reduces (c4 .intersects-tests .ensures) (c .before .before .found .given .1))) (c .with-handle .ensures))
+    let after-intersects-tests = c .before .before .before .before in
+    let at-if1 = after-intersects-tests .before .before in
+    given (not-false _ (at-if1 .if1 .left)) (further (by begin (intersects-is _ _ _))
+    (answer-reduces (after-intersects-tests .intersects-tests .ensures) (c .before .before .found .given .1))) (c .with-handle .ensures))
     (λ c. search needs)
     (λ c.
-    let c6 = c .before .before .before .before .before .before in
-    let c8 = c6 .before .before in
-    let c12 = c8 .before .before .before .before in
-    let c14 = c12 .before .before in
-    let c15 = c14 .before in
-    let c16 = c15 .before in
-    let c18 = c16 .before .before in
-    let c20 = c18 .before .before in
-    let c22 = c20 .before .before in
-    let c26 = c22 .before .before .before .before in
-    meet-returns _ _ _ (not-false _ (c22 .if1 .left)) (omega (arith, c26 .fits .level .fits)) (c16 .if2 .left)
-    (further (by begin (intersects-is _ _ _)) (node-reduces (c20 .intersects-tests .ensures) (c18 .found2 .given .1))) (c15 .get .ensures)
-    (c14 .get2 .ensures) (c12 .intersects .ensures) (performs-differ _ 1 (ne-eqb _ _ (c8 .if3 .left)) (c6 .intersects2 .ensures))
-    (c .before .before .remember2 .ensures)))
+    let after-intersects2 = c .before .before .before .before .before .before in
+    let at-if3 = after-intersects2 .before .before in
+    let after-intersects = at-if3 .before .before .before .before in
+    let after-get2 = after-intersects .before .before in
+    let after-get = after-get2 .before in
+    let at-if2 = after-get .before in
+    let after-found2 = at-if2 .before .before in
+    let after-intersects-tests = after-found2 .before .before in
+    let at-if1 = after-intersects-tests .before .before in
+    let entry = at-if1 .before .before .before .before in
+    meet-returns _ _ _ (not-false _ (at-if1 .if1 .left)) (omega (arith, entry .fits .level .fits)) (at-if2 .if2 .left)
+    (further (by begin (intersects-is _ _ _)) (node-reduces (after-intersects-tests .intersects-tests .ensures) (after-found2 .found2 .given .1)))
+    (after-get .get .ensures)
+    (after-get2 .get2 .ensures) (after-intersects .intersects .ensures)
+    (performs-differ _ 1 (ne-eqb _ _ (at-if3 .if3 .left)) (after-intersects2 .intersects2 .ensures)) (c .before .before .remember2 .ensures)))

@@ -67,13 +67,13 @@ unfolding union-program
     (λ c. search needs)
     (λ c. search needs)
     (λ c.
-    let c4 = c .before .before .before .before in
-    let c7 = c4 .before .before .before in
-    let c8 = c7 .before in
-    let c9 = c8 .before in
-    let c10 = c9 .before in
-    called (not-false _ (c10 .if1 .left)) (yes (no (by begin (union-is _ _ _)) (same-says (ne-eqb _ _ (c9 .if2 .left))))
-    (same-says (eq-eqb _ _ (c7 .if3 .taken ∙ c8 .other .ensures)))) (c4 .one-at-depth .ensures))
+    let after-one-at-depth = c .before .before .before .before in
+    let at-if3 = after-one-at-depth .before .before .before in
+    let after-other = at-if3 .before in
+    let at-if2 = after-other .before in
+    let at-if1 = at-if2 .before in
+    called (not-false _ (at-if1 .if1 .left)) (yes (no (by begin (union-is _ _ _)) (same-says (ne-eqb _ _ (at-if2 .if2 .left))))
+    (same-says (eq-eqb _ _ (at-if3 .if3 .taken ∙ after-other .other .ensures)))) (after-one-at-depth .one-at-depth .ensures))
     (λ c κs. search needs)
     (λ c. search needs)
     (λ c κs. search needs)
@@ -81,54 +81,55 @@ unfolding union-program
     (λ c. search needs)
     (λ c. search needs)
     (λ c.
-    let c4 = c .before .before .before .before in
-    let c7 = c4 .before .before .before in
-    let c8 = c7 .before in
-    let c9 = c8 .before in
-    let c10 = c9 .before in
-    impossible (not-false _ (c10 .if1 .left)) (by (further (union-tested _ _ _ _ (c9 .if2 .left) (c8 .other .ensures) (c7 .if3 .left))
-    (node-reduces (c4 .union-tests .ensures) (c .before .before .found2 .given .1))) (node2-zero (union-op set) _ _ _ (c .if4 .taken))))
+    let after-union-tests = c .before .before .before .before in
+    let at-if3 = after-union-tests .before .before .before in
+    let after-other = at-if3 .before in
+    let at-if2 = after-other .before in
+    let at-if1 = at-if2 .before in
+    impossible (not-false _ (at-if1 .if1 .left)) (by (further (union-tested _ _ _ _ (at-if2 .if2 .left) (after-other .other .ensures) (at-if3 .if3 .left))
+    (node-reduces (after-union-tests .union-tests .ensures) (c .before .before .found2 .given .1))) (node2-zero (union-op set) _ _ _ (c .if4 .taken))))
     (λ c κs. search needs)
     (λ c κs. search needs)
     (λ c. search needs)
     (λ c κs.
-    let c6 = c .before .before .before .before .before .before in
-    let c20 = c6 .before .before .before .before .before .before .before .before .before .before .before .before .before .before in
-    (omega (arith, c20 .pre .0, c6 .if4 .left), tt))
+    let at-if4 = c .before .before .before .before .before .before in
+    let entry = at-if4 .before .before .before .before .before .before .before .before .before .before .before .before .before .before in
+    (omega (arith, entry .pre .0, at-if4 .if4 .left), tt))
     (λ c. search needs)
     (λ c κs.
-    let c13 = c .before .before .before .before .before .before .before .before .before .before .before .before .before in
-    let c27 = c13 .before .before .before .before .before .before .before .before .before .before .before .before .before .before in
-    (omega (arith, c27 .pre .0, c13 .if4 .left), tt))
+    let at-if4 = c .before .before .before .before .before .before .before .before .before .before .before .before .before in
+    let entry = at-if4 .before .before .before .before .before .before .before .before .before .before .before .before .before .before in
+    (omega (arith, entry .pre .0, at-if4 .if4 .left), tt))
     (λ c κs. search needs)
     (λ c κs. search needs)
     (λ c. search needs)
     (λ c. search needs)
     (λ c.
-    let c4 = c .before .before .before .before in
-    let c7 = c4 .before .before .before in
-    let c8 = c7 .before in
-    let c9 = c8 .before in
-    let c10 = c9 .before in
-    given (not-false _ (c10 .if1 .left)) (further (union-tested _ _ _ _ (c9 .if2 .left) (c8 .other .ensures) (c7 .if3 .left))
-    (answer-reduces (c4 .union-tests .ensures) (c .before .before .found .given .1))) (c .with-handle2 .ensures))
+    let after-union-tests = c .before .before .before .before in
+    let at-if3 = after-union-tests .before .before .before in
+    let after-other = at-if3 .before in
+    let at-if2 = after-other .before in
+    let at-if1 = at-if2 .before in
+    given (not-false _ (at-if1 .if1 .left)) (further (union-tested _ _ _ _ (at-if2 .if2 .left) (after-other .other .ensures) (at-if3 .if3 .left))
+    (answer-reduces (after-union-tests .union-tests .ensures) (c .before .before .found .given .1))) (c .with-handle2 .ensures))
     (λ c. search needs)
     (λ c. search needs)
     (λ c.
-    let c8 = c .before .before .before .before .before .before .before .before in
-    let c15 = c8 .before .before .before .before .before .before .before in
-    let c22 = c15 .before .before .before .before .before .before .before in
-    let c25 = c22 .before .before .before in
-    let c27 = c25 .before .before in
-    let c29 = c27 .before .before in
-    let c31 = c29 .before .before in
-    let c33 = c31 .before .before in
-    let c36 = c33 .before .before .before in
-    let c37 = c36 .before in
-    let c38 = c37 .before in
-    let c39 = c38 .before in
-    let c43 = c39 .before .before .before .before in
-    pair-returns (union-op set .short) 1 _ _ _ (not-false _ (c39 .if1 .left)) (omega (arith, c43 .fits .level .fits)) (c29 .if4 .left) (union-memo _ _ _)
-    (further (union-tested _ _ _ _ (c38 .if2 .left) (c37 .other .ensures) (c36 .if3 .left))
-    (node-reduces (c33 .union-tests .ensures) (c31 .found2 .given .1))) (c27 .get .ensures) (c25 .get2 .ensures) (c22 .union .ensures) (c15 .union2 .ensures)
-    (c8 .mk .ensures) (c .before .before .remember .ensures)))
+    let after-mk = c .before .before .before .before .before .before .before .before in
+    let after-union2 = after-mk .before .before .before .before .before .before .before in
+    let after-union = after-union2 .before .before .before .before .before .before .before in
+    let after-get2 = after-union .before .before .before in
+    let after-get = after-get2 .before .before in
+    let at-if4 = after-get .before .before in
+    let after-found2 = at-if4 .before .before in
+    let after-union-tests = after-found2 .before .before in
+    let at-if3 = after-union-tests .before .before .before in
+    let after-other = at-if3 .before in
+    let at-if2 = after-other .before in
+    let at-if1 = at-if2 .before in
+    let entry = at-if1 .before .before .before .before in
+    pair-returns (union-op set .short) 1 _ _ _ (not-false _ (at-if1 .if1 .left)) (omega (arith, entry .fits .level .fits)) (at-if4 .if4 .left)
+    (union-memo _ _ _) (further (union-tested _ _ _ _ (at-if2 .if2 .left) (after-other .other .ensures) (at-if3 .if3 .left))
+    (node-reduces (after-union-tests .union-tests .ensures) (after-found2 .found2 .given .1))) (after-get .get .ensures) (after-get2 .get2 .ensures)
+    (after-union .union .ensures) (after-union2 .union2 .ensures)
+    (after-mk .mk .ensures) (c .before .before .remember .ensures)))

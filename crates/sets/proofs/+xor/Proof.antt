@@ -59,10 +59,11 @@ unfolding xor-program
     (λ c. search needs)
     (λ c. search needs)
     (λ c.
-    let c4 = c .before .before .before .before in
-    let c7 = c4 .before .before .before in
-    let c8 = c7 .before in
-    called (not-false _ (c8 .if1 .left)) (yes (by begin (xor-is _ _ _)) (same-says (eq-eqb _ _ (c7 .if2 .taken)))) (c4 .zero-at-depth .ensures))
+    let after-zero-at-depth = c .before .before .before .before in
+    let at-if2 = after-zero-at-depth .before .before .before in
+    let at-if1 = at-if2 .before in
+    called (not-false _ (at-if1 .if1 .left)) (yes (by begin (xor-is _ _ _)) (same-says (eq-eqb _ _ (at-if2 .if2 .taken))))
+    (after-zero-at-depth .zero-at-depth .ensures))
     (λ c κs. search needs)
     (λ c. search needs)
     (λ c κs. search needs)
@@ -70,47 +71,48 @@ unfolding xor-program
     (λ c. search needs)
     (λ c. search needs)
     (λ c.
-    let c4 = c .before .before .before .before in
-    let c7 = c4 .before .before .before in
-    let c8 = c7 .before in
-    impossible (not-false _ (c8 .if1 .left)) (by (further (xor-tested _ _ _ (c7 .if2 .left))
-    (node-reduces (c4 .xor-tests .ensures) (c .before .before .found2 .given .1))) (node2-zero (xor-op set) _ _ _ (c .if3 .taken))))
+    let after-xor-tests = c .before .before .before .before in
+    let at-if2 = after-xor-tests .before .before .before in
+    let at-if1 = at-if2 .before in
+    impossible (not-false _ (at-if1 .if1 .left)) (by (further (xor-tested _ _ _ (at-if2 .if2 .left))
+    (node-reduces (after-xor-tests .xor-tests .ensures) (c .before .before .found2 .given .1))) (node2-zero (xor-op set) _ _ _ (c .if3 .taken))))
     (λ c κs. search needs)
     (λ c κs. search needs)
     (λ c. search needs)
     (λ c κs.
-    let c6 = c .before .before .before .before .before .before in
-    let c18 = c6 .before .before .before .before .before .before .before .before .before .before .before .before in
-    (omega (arith, c18 .pre .0, c6 .if3 .left), tt))
+    let at-if3 = c .before .before .before .before .before .before in
+    let entry = at-if3 .before .before .before .before .before .before .before .before .before .before .before .before in
+    (omega (arith, entry .pre .0, at-if3 .if3 .left), tt))
     (λ c. search needs)
     (λ c κs.
-    let c13 = c .before .before .before .before .before .before .before .before .before .before .before .before .before in
-    let c25 = c13 .before .before .before .before .before .before .before .before .before .before .before .before in
-    (omega (arith, c25 .pre .0, c13 .if3 .left), tt))
+    let at-if3 = c .before .before .before .before .before .before .before .before .before .before .before .before .before in
+    let entry = at-if3 .before .before .before .before .before .before .before .before .before .before .before .before in
+    (omega (arith, entry .pre .0, at-if3 .if3 .left), tt))
     (λ c κs. search needs)
     (λ c κs. search needs)
     (λ c. search needs)
     (λ c. search needs)
     (λ c.
-    let c4 = c .before .before .before .before in
-    let c7 = c4 .before .before .before in
-    let c8 = c7 .before in
-    given (not-false _ (c8 .if1 .left)) (further (xor-tested _ _ _ (c7 .if2 .left))
-    (answer-reduces (c4 .xor-tests .ensures) (c .before .before .found .given .1))) (c .with-handle .ensures))
+    let after-xor-tests = c .before .before .before .before in
+    let at-if2 = after-xor-tests .before .before .before in
+    let at-if1 = at-if2 .before in
+    given (not-false _ (at-if1 .if1 .left)) (further (xor-tested _ _ _ (at-if2 .if2 .left))
+    (answer-reduces (after-xor-tests .xor-tests .ensures) (c .before .before .found .given .1))) (c .with-handle .ensures))
     (λ c. search needs)
     (λ c. search needs)
     (λ c.
-    let c8 = c .before .before .before .before .before .before .before .before in
-    let c15 = c8 .before .before .before .before .before .before .before in
-    let c22 = c15 .before .before .before .before .before .before .before in
-    let c25 = c22 .before .before .before in
-    let c27 = c25 .before .before in
-    let c29 = c27 .before .before in
-    let c31 = c29 .before .before in
-    let c33 = c31 .before .before in
-    let c36 = c33 .before .before .before in
-    let c37 = c36 .before in
-    let c41 = c37 .before .before .before .before in
-    pair-returns (xor-op set .short) 2 _ _ _ (not-false _ (c37 .if1 .left)) (omega (arith, c41 .fits .level .fits)) (c29 .if3 .left) (xor-memo _ _ _)
-    (further (xor-tested _ _ _ (c36 .if2 .left)) (node-reduces (c33 .xor-tests .ensures) (c31 .found2 .given .1))) (c27 .get .ensures) (c25 .get2 .ensures)
-    (c22 .xor .ensures) (c15 .xor2 .ensures) (c8 .mk .ensures) (c .before .before .remember .ensures)))
+    let after-mk = c .before .before .before .before .before .before .before .before in
+    let after-xor2 = after-mk .before .before .before .before .before .before .before in
+    let after-xor = after-xor2 .before .before .before .before .before .before .before in
+    let after-get2 = after-xor .before .before .before in
+    let after-get = after-get2 .before .before in
+    let at-if3 = after-get .before .before in
+    let after-found2 = at-if3 .before .before in
+    let after-xor-tests = after-found2 .before .before in
+    let at-if2 = after-xor-tests .before .before .before in
+    let at-if1 = at-if2 .before in
+    let entry = at-if1 .before .before .before .before in
+    pair-returns (xor-op set .short) 2 _ _ _ (not-false _ (at-if1 .if1 .left)) (omega (arith, entry .fits .level .fits)) (at-if3 .if3 .left) (xor-memo _ _ _)
+    (further (xor-tested _ _ _ (at-if2 .if2 .left)) (node-reduces (after-xor-tests .xor-tests .ensures) (after-found2 .found2 .given .1)))
+    (after-get .get .ensures) (after-get2 .get2 .ensures)
+    (after-xor .xor .ensures) (after-xor2 .xor2 .ensures) (after-mk .mk .ensures) (c .before .before .remember .ensures)))

@@ -18,7 +18,7 @@ difference-spec =
     (λ c. search needs)
     (λ c. search needs)
     (λ c.
-    let c6 = c .before .before .before .before .before .before in
-    let c7 = c6 .before in
-    performs-by (difference-is _ _ _ (c7 .other .ensures))
-    (performs-then (c6 .union .ensures) (performs-by (ap ret (sym (c .before .other2 .ensures))) (performs-ret _ (c .with-handle .ensures))))))
+    let after-union = c .before .before .before .before .before .before in
+    let after-other = after-union .before in
+    performs-by (difference-is _ _ _ (after-other .other .ensures))
+    (performs-then (after-union .union .ensures) (performs-by (ap ret (sym (c .before .other2 .ensures))) (performs-ret _ (c .with-handle .ensures))))))

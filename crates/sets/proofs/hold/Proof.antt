@@ -7,8 +7,8 @@ use Rattle.sets.proofs.hold.Statement.{statement}
 use Rattle.sets.proofs.hold.Tie as tie
 
 returns : tie.Need-returns
-returns c = let c5 = c .before .before .before .before .before in
-    λ y e q. joined-performs _ y _ refl e q (c5 .before .before .before .before .before .before .pre) (c5 .join .ensures)
+returns c = let after-join = c .before .before .before .before .before in
+    λ y e q. joined-performs _ y _ refl e q (after-join .before .before .before .before .before .before .pre) (after-join .join .ensures)
 
 pub hold-spec : {M : Type 1} → statement M
 hold-spec =

@@ -19,8 +19,8 @@ intersect-spec =
     (λ c. search needs)
     (λ c. search needs)
     (λ c.
-    let c6 = c .before .before .before .before .before .before in
-    let c7 = c6 .before in
-    let c8 = c7 .before in
-    performs-by (intersect-is _ _ _ (c8 .other .ensures) (c7 .other2 .ensures))
-    (performs-then (c6 .union .ensures) (performs-by (ap ret (sym (c .before .other3 .ensures))) (performs-ret _ (c .with-handle .ensures))))))
+    let after-union = c .before .before .before .before .before .before in
+    let after-other2 = after-union .before in
+    let after-other = after-other2 .before in
+    performs-by (intersect-is _ _ _ (after-other .other .ensures) (after-other2 .other2 .ensures))
+    (performs-then (after-union .union .ensures) (performs-by (ap ret (sym (c .before .other3 .ensures))) (performs-ret _ (c .with-handle .ensures))))))

@@ -16,74 +16,79 @@ intersects-tests-spec =
     (λ c. answer (yes begin (same-says (eq-eqb _ _ (c .if1 .taken ∙ c .before .other .ensures)))))
     (λ c κs. search needs)
     (λ c.
-    let c3 = c .before .before .before in
-    answer (yes (no begin (same-says (ne-eqb _ _ (λ e. c .before .before .if1 .left (e ∙ sym (c3 .other .ensures))))))
+    let after-other = c .before .before .before in
+    answer (yes (no begin (same-says (ne-eqb _ _ (λ e. c .before .before .if1 .left (e ∙ sym (after-other .other .ensures))))))
     (empty-says (c .before .set-properties .ensures) (c .if2 .taken))))
     (λ c κs. search needs)
     (λ c.
-    let c3 = c .before .before .before in
-    let c4 = c3 .before in
-    let c5 = c4 .before in
-    answer (yes (no (no begin (same-says (ne-eqb _ _ (λ e. c4 .if1 .left (e ∙ sym (c5 .other .ensures))))))
-    (empty-says (c3 .set-properties .ensures) (c .before .before .if2 .left)))
+    let after-set-properties = c .before .before .before in
+    let at-if1 = after-set-properties .before in
+    let after-other = at-if1 .before in
+    answer (yes (no (no begin (same-says (ne-eqb _ _ (λ e. at-if1 .if1 .left (e ∙ sym (after-other .other .ensures))))))
+    (empty-says (after-set-properties .set-properties .ensures) (c .before .before .if2 .left)))
     (empty-says (c .before .set-properties2 .ensures) (c .if3 .taken))))
     (λ c.
-    let c3 = c .before .before .before in
-    let c4 = c3 .before in
-    let c5 = c4 .before in
-    let c6 = c5 .before in
-    answer (yes (no (no (no begin (same-says (ne-eqb _ _ (λ e. c5 .if1 .left (e ∙ sym (c6 .other .ensures))))))
-    (empty-says (c4 .set-properties .ensures) (c3 .if2 .left))) (empty-says (c .before .before .set-properties2 .ensures) (c .before .if3 .left)))
+    let at-if2 = c .before .before .before in
+    let after-set-properties = at-if2 .before in
+    let at-if1 = after-set-properties .before in
+    let after-other = at-if1 .before in
+    answer (yes (no (no (no begin (same-says (ne-eqb _ _ (λ e. at-if1 .if1 .left (e ∙ sym (after-other .other .ensures))))))
+    (empty-says (after-set-properties .set-properties .ensures) (at-if2 .if2 .left)))
+    (empty-says (c .before .before .set-properties2 .ensures) (c .before .if3 .left)))
     (same-says (eq-eqb _ _ (c .if4 .taken)))))
     (λ c.
-    let c3 = c .before .before .before in
-    let c4 = c3 .before in
-    let c5 = c4 .before in
-    let c6 = c5 .before in
-    let c7 = c6 .before in
-    answer (yes (no (no (no (no begin (same-says (ne-eqb _ _ (λ e. c6 .if1 .left (e ∙ sym (c7 .other .ensures))))))
-    (empty-says (c5 .set-properties .ensures) (c4 .if2 .left))) (empty-says (c3 .set-properties2 .ensures) (c .before .before .if3 .left)))
-    (same-says (ne-eqb _ _ (c .before .if4 .left)))) (universal-says (c5 .set-properties .ensures) (c .if5 .taken))))
+    let after-set-properties2 = c .before .before .before in
+    let at-if2 = after-set-properties2 .before in
+    let after-set-properties = at-if2 .before in
+    let at-if1 = after-set-properties .before in
+    let after-other = at-if1 .before in
+    answer (yes (no (no (no (no begin (same-says (ne-eqb _ _ (λ e. at-if1 .if1 .left (e ∙ sym (after-other .other .ensures))))))
+    (empty-says (after-set-properties .set-properties .ensures) (at-if2 .if2 .left)))
+    (empty-says (after-set-properties2 .set-properties2 .ensures) (c .before .before .if3 .left)))
+    (same-says (ne-eqb _ _ (c .before .if4 .left)))) (universal-says (after-set-properties .set-properties .ensures) (c .if5 .taken))))
     (λ c.
-    let c3 = c .before .before .before in
-    let c4 = c3 .before in
-    let c5 = c4 .before in
-    let c6 = c5 .before in
-    let c7 = c6 .before in
-    let c8 = c7 .before in
-    answer (yes (no (no (no (no (no begin (same-says (ne-eqb _ _ (λ e. c7 .if1 .left (e ∙ sym (c8 .other .ensures))))))
-    (empty-says (c6 .set-properties .ensures) (c5 .if2 .left))) (empty-says (c4 .set-properties2 .ensures) (c3 .if3 .left)))
-    (same-says (ne-eqb _ _ (c .before .before .if4 .left)))) (universal-says (c6 .set-properties .ensures) (c .before .if5 .left)))
-    (universal-says (c4 .set-properties2 .ensures) (c .if6 .taken))))
+    let at-if3 = c .before .before .before in
+    let after-set-properties2 = at-if3 .before in
+    let at-if2 = after-set-properties2 .before in
+    let after-set-properties = at-if2 .before in
+    let at-if1 = after-set-properties .before in
+    let after-other = at-if1 .before in
+    answer (yes (no (no (no (no (no begin (same-says (ne-eqb _ _ (λ e. at-if1 .if1 .left (e ∙ sym (after-other .other .ensures))))))
+    (empty-says (after-set-properties .set-properties .ensures) (at-if2 .if2 .left)))
+    (empty-says (after-set-properties2 .set-properties2 .ensures) (at-if3 .if3 .left)))
+    (same-says (ne-eqb _ _ (c .before .before .if4 .left)))) (universal-says (after-set-properties .set-properties .ensures) (c .before .if5 .left)))
+    (universal-says (after-set-properties2 .set-properties2 .ensures) (c .if6 .taken))))
     (λ c κs. search needs)
     (λ c.
-    let c3 = c .before .before .before in
-    let c4 = c3 .before in
-    let c5 = c4 .before in
-    let c6 = c5 .before in
-    let c7 = c6 .before in
-    let c8 = c7 .before in
-    let c9 = c8 .before in
-    let c10 = c9 .before in
+    let at-if5 = c .before .before .before in
+    let at-if4 = at-if5 .before in
+    let at-if3 = at-if4 .before in
+    let after-set-properties2 = at-if3 .before in
+    let at-if2 = after-set-properties2 .before in
+    let after-set-properties = at-if2 .before in
+    let at-if1 = after-set-properties .before in
+    let after-other = at-if1 .before in
     answer-recalled _ _ _ _ (intersects-memo _ _ _)
-    (yes (no (no (no (no (no (no begin (same-says (ne-eqb _ _ (λ e. c9 .if1 .left (e ∙ sym (c10 .other .ensures))))))
-    (empty-says (c8 .set-properties .ensures) (c7 .if2 .left))) (empty-says (c6 .set-properties2 .ensures) (c5 .if3 .left)))
-    (same-says (ne-eqb _ _ (c4 .if4 .left)))) (universal-says (c8 .set-properties .ensures) (c3 .if5 .left)))
-    (universal-says (c6 .set-properties2 .ensures) (c .before .before .if6 .left))) (less-says (lt-ltb _ _ (c .before .if7 .taken))))
+    (yes (no (no (no (no (no (no begin (same-says (ne-eqb _ _ (λ e. at-if1 .if1 .left (e ∙ sym (after-other .other .ensures))))))
+    (empty-says (after-set-properties .set-properties .ensures) (at-if2 .if2 .left)))
+    (empty-says (after-set-properties2 .set-properties2 .ensures) (at-if3 .if3 .left)))
+    (same-says (ne-eqb _ _ (at-if4 .if4 .left)))) (universal-says (after-set-properties .set-properties .ensures) (at-if5 .if5 .left)))
+    (universal-says (after-set-properties2 .set-properties2 .ensures) (c .before .before .if6 .left))) (less-says (lt-ltb _ _ (c .before .if7 .taken))))
     (c .recall .ensures))
     (λ c κs. search needs)
     (λ c.
-    let c3 = c .before .before .before in
-    let c4 = c3 .before in
-    let c5 = c4 .before in
-    let c6 = c5 .before in
-    let c7 = c6 .before in
-    let c8 = c7 .before in
-    let c9 = c8 .before in
-    let c10 = c9 .before in
+    let at-if5 = c .before .before .before in
+    let at-if4 = at-if5 .before in
+    let at-if3 = at-if4 .before in
+    let after-set-properties2 = at-if3 .before in
+    let at-if2 = after-set-properties2 .before in
+    let after-set-properties = at-if2 .before in
+    let at-if1 = after-set-properties .before in
+    let after-other = at-if1 .before in
     answer-recalled _ _ _ _ (intersects-memo _ _ _)
-    (no (no (no (no (no (no (no begin (same-says (ne-eqb _ _ (λ e. c9 .if1 .left (e ∙ sym (c10 .other .ensures))))))
-    (empty-says (c8 .set-properties .ensures) (c7 .if2 .left))) (empty-says (c6 .set-properties2 .ensures) (c5 .if3 .left)))
-    (same-says (ne-eqb _ _ (c4 .if4 .left)))) (universal-says (c8 .set-properties .ensures) (c3 .if5 .left)))
-    (universal-says (c6 .set-properties2 .ensures) (c .before .before .if6 .left))) (less-says (le-ltb _ _ (c .before .if7 .left))))
+    (no (no (no (no (no (no (no begin (same-says (ne-eqb _ _ (λ e. at-if1 .if1 .left (e ∙ sym (after-other .other .ensures))))))
+    (empty-says (after-set-properties .set-properties .ensures) (at-if2 .if2 .left)))
+    (empty-says (after-set-properties2 .set-properties2 .ensures) (at-if3 .if3 .left)))
+    (same-says (ne-eqb _ _ (at-if4 .if4 .left)))) (universal-says (after-set-properties .set-properties .ensures) (at-if5 .if5 .left)))
+    (universal-says (after-set-properties2 .set-properties2 .ensures) (c .before .before .if6 .left))) (less-says (le-ltb _ _ (c .before .if7 .left))))
     (c .recall2 .ensures)))

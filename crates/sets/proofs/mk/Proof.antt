@@ -8,11 +8,11 @@ use Rattle.sets.proofs.mk.Tie as tie
 
 returns : tie.Need-returns
 returns c =
-    let c4 = c .before .before .before .before in
-    let c5 = c4 .before in
-    let c6 = c5 .before in
-    let odd = c6 .before .before .before .if1 .taken in
-    c4 .hold .ensures _ (stored-odd _ _ _ _ odd (c6 .other .ensures) (c5 .other2 .ensures)) (sym odd)
+    let after-hold = c .before .before .before .before in
+    let after-other2 = after-hold .before in
+    let after-other = after-other2 .before in
+    let odd = after-other .before .before .before .if1 .taken in
+    after-hold .hold .ensures _ (stored-odd _ _ _ _ odd (after-other .other .ensures) (after-other2 .other2 .ensures)) (sym odd)
 
 returns-2 : tie.Need-returns-2
 returns-2 c = c .before .before .before .before .hold2 .ensures _ (stored-even _ _ (omega arith)) (omega arith)

@@ -22,42 +22,46 @@ union-tests-spec =
     (λ c. answer (yes begin (empty-says (c .before .set-properties .ensures) (c .if1 .taken))))
     (λ c κs. search needs)
     (λ c.
-    let c3 = c .before .before .before in
-    answer (yes (no begin (empty-says (c3 .set-properties .ensures) (c .before .before .if1 .left)))
+    let after-set-properties = c .before .before .before in
+    answer (yes (no begin (empty-says (after-set-properties .set-properties .ensures) (c .before .before .if1 .left)))
     (universal-says (c .before .set-properties2 .ensures) (c .if2 .taken))))
     (λ c.
-    let c3 = c .before .before .before in
-    let c4 = c3 .before in
-    answer (yes (no (no begin (empty-says (c4 .set-properties .ensures) (c3 .if1 .left)))
+    let at-if1 = c .before .before .before in
+    let after-set-properties = at-if1 .before in
+    answer (yes (no (no begin (empty-says (after-set-properties .set-properties .ensures) (at-if1 .if1 .left)))
     (universal-says (c .before .before .set-properties2 .ensures) (c .before .if2 .left)))
     (empty-says (c .before .before .set-properties2 .ensures) (c .if3 .taken))))
     (λ c.
-    let c3 = c .before .before .before in
-    let c4 = c3 .before in
-    let c5 = c4 .before in
-    answer (yes (no (no (no begin (empty-says (c5 .set-properties .ensures) (c4 .if1 .left)))
-    (universal-says (c3 .set-properties2 .ensures) (c .before .before .if2 .left)))
-    (empty-says (c3 .set-properties2 .ensures) (c .before .if3 .left))) (universal-says (c5 .set-properties .ensures) (c .if4 .taken))))
+    let after-set-properties2 = c .before .before .before in
+    let at-if1 = after-set-properties2 .before in
+    let after-set-properties = at-if1 .before in
+    answer (yes (no (no (no begin (empty-says (after-set-properties .set-properties .ensures) (at-if1 .if1 .left)))
+    (universal-says (after-set-properties2 .set-properties2 .ensures) (c .before .before .if2 .left)))
+    (empty-says (after-set-properties2 .set-properties2 .ensures) (c .before .if3 .left)))
+    (universal-says (after-set-properties .set-properties .ensures) (c .if4 .taken))))
     (λ c κs. search needs)
     (λ c.
-    let c3 = c .before .before .before in
-    let c4 = c3 .before in
-    let c5 = c4 .before in
-    let c6 = c5 .before in
-    let c7 = c6 .before in
+    let at-if3 = c .before .before .before in
+    let at-if2 = at-if3 .before in
+    let after-set-properties2 = at-if2 .before in
+    let at-if1 = after-set-properties2 .before in
+    let after-set-properties = at-if1 .before in
     answer-recalled _ _ _ _ (union-memo _ _ _) (yes
-    (no (no (no (no begin (empty-says (c7 .set-properties .ensures) (c6 .if1 .left)))
-    (universal-says (c5 .set-properties2 .ensures) (c4 .if2 .left))) (empty-says (c5 .set-properties2 .ensures) (c3 .if3 .left)))
-    (universal-says (c7 .set-properties .ensures) (c .before .before .if4 .left))) (less-says (lt-ltb _ _ (c .before .if5 .taken))))
+    (no (no (no (no begin (empty-says (after-set-properties .set-properties .ensures) (at-if1 .if1 .left)))
+    (universal-says (after-set-properties2 .set-properties2 .ensures) (at-if2 .if2 .left)))
+    (empty-says (after-set-properties2 .set-properties2 .ensures) (at-if3 .if3 .left)))
+    (universal-says (after-set-properties .set-properties .ensures) (c .before .before .if4 .left))) (less-says (lt-ltb _ _ (c .before .if5 .taken))))
     (c .recall .ensures))
     (λ c κs. search needs)
     (λ c.
-    let c3 = c .before .before .before in
-    let c4 = c3 .before in
-    let c5 = c4 .before in
-    let c6 = c5 .before in
-    let c7 = c6 .before in
+    let at-if3 = c .before .before .before in
+    let at-if2 = at-if3 .before in
+    let after-set-properties2 = at-if2 .before in
+    let at-if1 = after-set-properties2 .before in
+    let after-set-properties = at-if1 .before in
     answer-recalled _ _ _ _ (union-memo _ _ _) (no (no
-    (no (no (no begin (empty-says (c7 .set-properties .ensures) (c6 .if1 .left))) (universal-says (c5 .set-properties2 .ensures) (c4 .if2 .left)))
-    (empty-says (c5 .set-properties2 .ensures) (c3 .if3 .left))) (universal-says (c7 .set-properties .ensures) (c .before .before .if4 .left)))
+    (no (no (no begin (empty-says (after-set-properties .set-properties .ensures) (at-if1 .if1 .left)))
+    (universal-says (after-set-properties2 .set-properties2 .ensures) (at-if2 .if2 .left)))
+    (empty-says (after-set-properties2 .set-properties2 .ensures) (at-if3 .if3 .left)))
+    (universal-says (after-set-properties .set-properties .ensures) (c .before .before .if4 .left)))
     (less-says (le-ltb _ _ (c .before .if5 .left)))) (c .recall2 .ensures)))

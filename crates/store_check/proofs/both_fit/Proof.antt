@@ -10,9 +10,9 @@ returns c = first-fails _ _ _ (as-checked (not-true _ (c .if1 .taken)) (c .befor
 
 returns-2 : tie.Need-returns-2
 returns-2 c =
-    let i = c .before .before .before .before .before .before .before .before in
+    let at-if1 = c .before .before .before .before .before .before .before .before in
     let e = c .before .before .before .before .before .before .empty in
-    both-checked (as-checked (not-false _ (i .if1 .left)) (i .before .before .before .nodes-fit .ensures)) (e .ensures)
+    both-checked (as-checked (not-false _ (at-if1 .if1 .left)) (at-if1 .before .before .before .nodes-fit .ensures)) (e .ensures)
     (c .before .before .nodes-fit2 .ensures)
 
 pub both-fit-spec : {M : Type 1} → statement M

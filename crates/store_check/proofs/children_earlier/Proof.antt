@@ -21,25 +21,25 @@ loop-holds c = (omega arith, λ K e j h. absurd (omega arith))
 
 returns : tie.Need-returns Inv-loop μ-loop
 returns c =
-    let c4 = c .before .before .before .before in
-    let c5 = c4 .before in
-    let c7 = c5 .before .before in
-    let a = c7 .args in
-    let d = c4 .loop .d in
+    let at-loop = c .before .before .before .before in
+    let after-handle-at = at-loop .before in
+    let entry = after-handle-at .before .before in
+    let a = entry .args in
+    let d = at-loop .loop .d in
     λ K e. says-no (λ f.
     let h = subst (λ c. getD (a .nodes .now) (c * a .i + d) 0 < handle-of K 0 (a .i)) (sym e) (f d (omega (arith, e))) in
-    omega (arith, c .before .as-index .ensures, c5 .handle-at .ensures K e))
+    omega (arith, c .before .as-index .ensures, after-handle-at .handle-at .ensures K e))
 
 loop-again : tie.Need-loop-again Inv-loop μ-loop
 loop-again c =
-    let c4 = c .before .before .before .before in
-    let c5 = c4 .before in
-    let c7 = c5 .before .before in
-    let a = c7 .args in
-    let d = c4 .loop .d in (
+    let at-loop = c .before .before .before .before in
+    let after-handle-at = at-loop .before in
+    let entry = after-handle-at .before .before in
+    let a = entry .args in
+    let d = at-loop .loop .d in (
       omega arith,
-      λ K e. below-more _ d (c4 .loop .inv .1 K e) (subst (λ c. getD (a .nodes .now) (c * a .i + d) 0 < handle-of K 0 (a .i)) e
-          (omega (arith, c .before .as-index .ensures, c5 .handle-at .ensures K e))),
+      λ K e. below-more _ d (at-loop .loop .inv .1 K e) (subst (λ c. getD (a .nodes .now) (c * a .i + d) 0 < handle-of K 0 (a .i)) e
+          (omega (arith, c .before .as-index .ensures, after-handle-at .handle-at .ensures K e))),
     )
 
 returns-2 : tie.Need-returns-2 Inv-loop μ-loop

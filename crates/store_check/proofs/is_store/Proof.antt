@@ -25,26 +25,26 @@ returns c =
 returns-2 : tie.Need-returns-2
 returns-2 c =
     let b = c .before .before .both-fit in
-    let i = c .before .before .before .before .before .before .before in
-    let m = i .before .as-index2 in
-    let n = i .before .before .before .as-index in
-    let h = i .before .before .before .before .before in
-    let a = h .before .before .before .before .before .before .before .before .before .args in
-    subst (λ l. StoreChecked (memories (a .relations .now) (a .sets .now)) l (a .work .now) (b .last .1 .1 .0) (b .result)) (sym (i .if2 .taken))
-    (sets-last _ (heads h) (a .work .now) _ _ (h .before .before .before .before .clear .ensures) (n .result) (m .result) (n .ensures) (m .ensures)
+    let at-if2 = c .before .before .before .before .before .before .before in
+    let m = at-if2 .before .as-index2 in
+    let n = at-if2 .before .before .before .as-index in
+    let at-if1 = at-if2 .before .before .before .before .before in
+    let a = at-if1 .before .before .before .before .before .before .before .before .before .args in
+    subst (λ l. StoreChecked (memories (a .relations .now) (a .sets .now)) l (a .work .now) (b .last .1 .1 .0) (b .result)) (sym (at-if2 .if2 .taken))
+    (sets-last _ (heads at-if1) (a .work .now) _ _ (at-if1 .before .before .before .before .clear .ensures) (n .result) (m .result) (n .ensures) (m .ensures)
     (b .ensures))
 
 returns-3 : tie.Need-returns-3
 returns-3 c =
     let b = c .before .before .both-fit2 in
-    let i = c .before .before .before .before .before .before .before in
-    let m = i .before .as-index2 in
-    let n = i .before .before .before .as-index in
-    let h = i .before .before .before .before .before in
-    let a = h .before .before .before .before .before .before .before .before .before .args in
-    subst (λ l. StoreChecked (memories (a .relations .now) (a .sets .now)) l (a .work .now) (b .last .1 .1 .0) (b .result)) (sym (i .if2 .left))
-    (relations-last _ (heads h) (a .work .now) _ _ (h .before .before .before .before .clear .ensures) (m .result) (n .result) (m .ensures) (n .ensures)
-    (b .ensures))
+    let at-if2 = c .before .before .before .before .before .before .before in
+    let m = at-if2 .before .as-index2 in
+    let n = at-if2 .before .before .before .as-index in
+    let at-if1 = at-if2 .before .before .before .before .before in
+    let a = at-if1 .before .before .before .before .before .before .before .before .before .args in
+    subst (λ l. StoreChecked (memories (a .relations .now) (a .sets .now)) l (a .work .now) (b .last .1 .1 .0) (b .result)) (sym (at-if2 .if2 .left))
+    (relations-last _ (heads at-if1) (a .work .now) _ _ (at-if1 .before .before .before .before .clear .ensures) (m .result) (n .result) (m .ensures)
+    (n .ensures) (b .ensures))
 
 pub is-store-spec : {M : Type 1} → statement M
 is-store-spec =

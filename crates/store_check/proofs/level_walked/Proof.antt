@@ -23,8 +23,8 @@ abbrev μ-loop : tie.MeasureT-loop
 
 returns : tie.Need-returns Inv-loop μ-loop
 returns c =
-    let c4 = c .before .before .before .before in
-    let a = c4 .args in
+    let entry = c .before .before .before .before in
+    let a = entry .args in
     let m = a .nodes .now in
     λ K B e p F E. level-none K B m (a .k) (a .i) (λ l b f.
     let z = child-found K B m (a .c) (a .k) (a .i) 0 _ e p (first-is m (a .c) (a .k) (a .i) _ (c .before .level .ensures .0)) l (omega arith)
@@ -36,42 +36,42 @@ loop-holds c = (omega arith, λ K B e p F E j h. absurd (omega arith))
 
 returns-2 : tie.Need-returns-2 Inv-loop μ-loop
 returns-2 c =
-    let c4 = c .before .before .before .before in
-    let c6 = c4 .before .before in
-    let c9 = c6 .before .before .before in
-    let a = c9 .args in
+    let at-loop = c .before .before .before .before in
+    let after-level = at-loop .before .before in
+    let entry = after-level .before .before .before in
+    let a = entry .args in
     let m = a .nodes .now in
-    let d = c4 .loop .d in
+    let d = at-loop .loop .d in
     λ K B e p F E. level-none K B m (a .k) (a .i) (λ l b f.
-    let z = child-found K B m (a .c) (a .k) (a .i) 0 _ e p (first-is m (a .c) (a .k) (a .i) _ (c6 .level .ensures .0)) l (omega arith)
+    let z = child-found K B m (a .c) (a .k) (a .i) 0 _ e p (first-is m (a .c) (a .k) (a .i) _ (after-level .level .ensures .0)) l (omega arith)
     (f 0 (arity-pos K)) in
     let y = child-found K B m (a .c) (a .k) (a .i) d _ e p (c .before .level2 .ensures .0) l (omega arith) (f d (omega (arith, e))) in
     c .if2 .taken (y ∙ sym z))
 
 loop-again : tie.Need-loop-again Inv-loop μ-loop
 loop-again c =
-    let c4 = c .before .before .before .before in
-    let c9 = c4 .before .before .before .before .before in
-    let a = c9 .args in
+    let at-loop = c .before .before .before .before in
+    let entry = at-loop .before .before .before .before .before in
+    let a = entry .args in
     let m = a .nodes .now in
-    let d = c4 .loop .d in (
+    let d = at-loop .loop .d in (
       omega arith,
-      λ K B e p F E. below-more _ d (c4 .loop .inv .1 K B e p F E)
+      λ K B e p F E. below-more _ d (at-loop .loop .inv .1 K B e p F E)
           (subst (λ l. Held K (plain K B m (a .i)) l (getD m (arity K * a .i + d) 0)) (c .if2 .left)
           (child-held K B m (a .c) (a .k) (a .i) d _ e p (c .before .level2 .ensures .0) F E (omega (arith, e)))),
     )
 
 returns-3 : tie.Need-returns-3 Inv-loop μ-loop
 returns-3 c =
-    let c3 = c .before .before .before in
-    let c6 = c3 .before .before .before in
-    let a = c6 .args in
+    let after-level = c .before .before .before in
+    let entry = after-level .before .before .before in
+    let a = entry .args in
     let m = a .nodes .now in
     λ K B e p F E. record {
       so = λ l q b d h.
-          let z : c3 .level .result ≡ l = omega arith in
+          let z : after-level .level .result ≡ l = omega arith in
           subst (λ l. Held K (plain K B m (a .i)) l (getD m (arity K * a .i + d) 0)) z (c .before .loop .inv .1 K B e p F E d (omega (arith, e)));
-      found = λ l b f. ap (λ n. n + 1) (child-found K B m (a .c) (a .k) (a .i) 0 _ e p (first-is m (a .c) (a .k) (a .i) _ (c3 .level .ensures .0)) l
+      found = λ l b f. ap (λ n. n + 1) (child-found K B m (a .c) (a .k) (a .i) 0 _ e p (first-is m (a .c) (a .k) (a .i) _ (after-level .level .ensures .0)) l
           (omega arith)
           (f 0 (arity-pos K)));
     }

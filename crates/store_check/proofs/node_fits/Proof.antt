@@ -15,17 +15,17 @@ returns c = λ K B e p R F A. says-no (λ N. c .before .children-earlier .ensure
 
 returns-2 : tie.Need-returns-2
 returns-2 c =
-    let c3 = c .before .before .before in
+    let after-children-earlier = c .before .before .before in
     λ K B e p R F A. says-no (λ N.
-    let E = c3 .children-earlier .ensures K e .so (not-false _ (c .before .before .if1 .left)) in
+    let E = after-children-earlier .children-earlier .ensures K e .so (not-false _ (c .before .before .if1 .left)) in
     let h = node-above (c .before .node-level .ensures K B e (omega arith) F E A) N in omega arith)
 
 returns-3 : tie.Need-returns-3
 returns-3 c =
-    let c3 = c .before .before .before in
-    let c4 = c3 .before in
+    let at-if1 = c .before .before .before in
+    let after-children-earlier = at-if1 .before in
     λ K B e p R F A. says-no (λ N.
-    let E = c4 .children-earlier .ensures K e .so (not-false _ (c3 .if1 .left)) in
+    let E = after-children-earlier .children-earlier .ensures K e .so (not-false _ (at-if1 .if1 .left)) in
     let h = node-above (c .before .before .node-level .ensures K B e (omega arith) F E A) N in
     let u = N .under in omega arith)
 
@@ -42,21 +42,21 @@ find-requires c κs =
 
 returns-5 : tie.Need-returns-5
 returns-5 c =
-    let c3 = c .before .before .before in
-    let c6 = c3 .before .before .before in
-    let c7 = c6 .before in
-    let c8 = c7 .before in
-    let c9 = c8 .before in
-    let c12 = c9 .before .before .before in
-    let s = c12 .pre in
-    let a = c12 .args in
-    let l = c7 .node-level .result in
-    let n = c6 .if2 .left in
+    let after-first-even = c .before .before .before in
+    let at-if2 = after-first-even .before .before .before in
+    let after-node-level = at-if2 .before in
+    let at-if1 = after-node-level .before in
+    let after-children-earlier = at-if1 .before in
+    let entry = after-children-earlier .before .before .before in
+    let s = entry .pre in
+    let a = entry .args in
+    let l = after-node-level .node-level .result in
+    let n = at-if2 .if2 .left in
     let q : l ≡ l - 1 + 1 = omega arith in
     λ K B e p R F A.
-    let E = c9 .children-earlier .ensures K e .so (not-false _ (c8 .if1 .left)) in
-    node-last (omega arith) (node-below l (l - 1) q (omega arith) (c7 .node-level .ensures K B e (omega arith) F E A) E)
-    (c3 .first-even .ensures K (row (arity K) (a .nodes .now) (a .i)) e (row-first K (a .nodes .now) (a .c) (a .i) e) .so
+    let E = after-children-earlier .children-earlier .ensures K e .so (not-false _ (at-if1 .if1 .left)) in
+    node-last (omega arith) (node-below l (l - 1) q (omega arith) (after-node-level .node-level .ensures K B e (omega arith) F E A) E)
+    (after-first-even .first-even .ensures K (row (arity K) (a .nodes .now) (a .i)) e (row-first K (a .nodes .now) (a .c) (a .i) e) .so
     (not-false _ (c .before .before .if4 .left)))
     (row-found K (a .nodes .now) (a .work .now) (a .c) (a .i) (c .find .result) e (s .1) (R .index) (c .find .ensures))
 

@@ -9,8 +9,8 @@ use Rattle.store_check.proofs.node_level.Tie as tie
 
 returns : tie.Need-returns
 returns c =
-    let c3 = c .before .before .before in
-    let a = c3 .args in
+    let entry = c .before .before .before in
+    let a = entry .args in
     let z = c .before .if1 .taken in
     λ K B e p F E A. level-told K B (a .nodes .now) (a .k) (a .i) (a .word) _ (omega arith)
     (ap (λ (r : Properties). r .level) (c .properties-in .ensures)) F E A

@@ -21,68 +21,69 @@ loop-holds c = (omega arith, refl, λ K B e p S. record { right = S .right; form
 
 mul-s : tie.Need-mul-s Inv-loop μ-loop
 mul-s c =
-    let c4 = c .before .before .before .before in
-    omega (arith, row-within (c4 .args .c) (c .before .loop .i) (c4 .args .n) (omega arith))
+    let entry = c .before .before .before .before in
+    omega (arith, row-within (entry .args .c) (c .before .loop .i) (entry .args .n) (omega arith))
 
 add-e : tie.Need-add-e Inv-loop μ-loop
 add-e c =
-    let c4 = c .before .before .before .before in
-    omega (arith, row-within (c4 .args .c) (c .before .loop .i) (c4 .args .n) (omega arith))
+    let entry = c .before .before .before .before in
+    omega (arith, row-within (entry .args .c) (c .before .loop .i) (entry .args .n) (omega arith))
 
 mul-gather : tie.Need-mul-gather Inv-loop μ-loop
 mul-gather c =
-    let c5 = c .before .before .before .before .before in
-    omega (arith, row-within (c5 .args .c) (c .before .before .loop .i) (c5 .args .n) (omega arith))
+    let entry = c .before .before .before .before .before in
+    omega (arith, row-within (entry .args .c) (c .before .before .loop .i) (entry .args .n) (omega arith))
 
 part-gather-end : tie.Need-part-gather-end Inv-loop μ-loop
 part-gather-end c =
-    let c5 = c .before .before .before .before .before in
-    omega (arith, row-within (c5 .args .c) (c .before .before .loop .i) (c5 .args .n) (omega arith))
+    let entry = c .before .before .before .before .before in
+    omega (arith, row-within (entry .args .c) (c .before .before .loop .i) (entry .args .n) (omega arith))
 
 node-fits-requires : tie.Need-node-fits-requires Inv-loop μ-loop
 node-fits-requires c κs =
-    let c5 = c .before .before .before .before .before in
-    let c8 = c5 .before .before .before in
-    (omega arith, omega (arith, row-within (c8 .args .c) (c5 .loop .i) (c8 .args .n) (omega arith)), omega arith)
+    let at-loop = c .before .before .before .before .before in
+    let entry = at-loop .before .before .before in
+    (omega arith, omega (arith, row-within (entry .args .c) (at-loop .loop .i) (entry .args .n) (omega arith)), omega arith)
 
 returns : tie.Need-returns Inv-loop μ-loop
 returns c =
-    let c3 = c .before .before .before in
-    let c7 = c3 .before .before .before .before in
-    let c10 = c7 .before .before .before in
-    let a = c10 .args in
-    let o = c7 .loop in
-    checked-no (a .c) (a .n) (a .k) (o .i) (a .nodes .now) (a .work .now) (o .work) (o .inv .2) (c3 .gather .result) (c3 .gather .ensures)
+    let after-gather = c .before .before .before in
+    let at-loop = after-gather .before .before .before .before in
+    let entry = at-loop .before .before .before in
+    let a = entry .args in
+    let o = at-loop .loop in
+    checked-no (a .c) (a .n) (a .k) (o .i) (a .nodes .now) (a .work .now) (o .work) (o .inv .2) (after-gather .gather .result) (after-gather .gather .ensures)
     (c .before .node-fits .result)
     (omega arith) (o .inv .1) (c .before .node-fits .ensures) (not-true _ (c .if1 .taken))
 
 enter-requires : tie.Need-enter-requires Inv-loop μ-loop
 enter-requires c κs =
-    let c12 = c .before .before .before .before .before .before .before .before .before .before .before .before in
-    let c15 = c12 .before .before .before in
-    (omega (arith, row-within (c15 .args .c) (c12 .loop .i) (c15 .args .n) (omega arith)), omega arith)
+    let at-loop = c .before .before .before .before .before .before .before .before .before .before .before .before in
+    let entry = at-loop .before .before .before in
+    (omega (arith, row-within (entry .args .c) (at-loop .loop .i) (entry .args .n) (omega arith)), omega arith)
 
 loop-again : tie.Need-loop-again Inv-loop μ-loop
 loop-again c =
-    let c6 = c .before .before .before .before .before .before in
-    let c8 = c6 .before .before in
-    let c9 = c8 .before in
-    let c11 = c9 .before .before in
-    let c15 = c11 .before .before .before .before in
-    let c18 = c15 .before .before .before in
-    let a = c18 .args in
-    let o = c15 .loop in (
+    let after-write = c .before .before .before .before .before .before in
+    let at-if1 = after-write .before .before in
+    let after-node-fits = at-if1 .before in
+    let after-gather = after-node-fits .before .before in
+    let at-loop = after-gather .before .before .before .before in
+    let entry = at-loop .before .before .before in
+    let a = entry .args in
+    let o = at-loop .loop in (
       omega arith,
       c .before .before .enter .ensures .work-length ∙ search needs,
-      all-next (a .c) (a .n) (a .k) (o .i) (a .nodes .now) (a .work .now) (o .work) (o .inv .2) (c11 .gather .result) (c11 .gather .ensures)
-          (c9 .node-fits .result) _ _
-          (omega arith) (c9 .node-fits .ensures) (not-false _ (c8 .if1 .left)) (c6 .write .ensures) (c .before .before .enter .ensures),
+      all-next (a .c) (a .n) (a .k) (o .i) (a .nodes .now) (a .work .now) (o .work) (o .inv .2) (after-gather .gather .result) (after-gather .gather .ensures)
+          (after-node-fits .node-fits .result) _ _
+          (omega arith) (after-node-fits .node-fits .ensures) (not-false _ (at-if1 .if1 .left)) (after-write .write .ensures)
+          (c .before .before .enter .ensures),
     )
 
 returns-2 : tie.Need-returns-2 Inv-loop μ-loop
 returns-2 c =
-    let c4 = c .before .before .before .before in
-    let a = c4 .args in
+    let entry = c .before .before .before .before in
+    let a = entry .args in
     let o = c .before .loop in
     checked-yes (a .c) (a .n) (a .k) (o .i) (a .nodes .now) (a .work .now) (o .work) (o .inv .2) (omega arith) (o .inv .1)
 

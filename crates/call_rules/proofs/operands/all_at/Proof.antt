@@ -30,7 +30,7 @@ all-at-spec =
     (no _ _ _ _ (level-told K B _ n (c .before .level2 .ensures .0) e f F y) (c .if2 .taken)))
     (λ c κs. search needs)
     (λ c K B n e f F x y z.
-    let c3 = c .before .before .before in
-    yes _ _ _ _ _ (level-told K B _ n (c3 .before .level .ensures .0) e f F x) (c3 .if1 .left)
+    let at-if1 = c .before .before .before in
+    yes _ _ _ _ _ (level-told K B _ n (at-if1 .before .level .ensures .0) e f F x) (at-if1 .if1 .left)
     (yes _ _ _ _ _ (level-told K B _ n (c .before .before .level2 .ensures .0) e f F y) (c .before .if2 .left)
     (last _ _ _ (level-told K B _ n (c .level3 .ensures .0) e f F z)))))

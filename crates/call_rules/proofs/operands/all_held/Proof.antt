@@ -23,13 +23,13 @@ all-held-spec =
     (and-no _ (c .before .is-held2 .ensures K S e f) (not-true _ (c .if2 .taken))))
     (λ c κs. search needs)
     (λ c K S e f.
-    let c2 = c .before .before in
-    and-yes (c2 .before .before .before .is-held .ensures K S e f) (not-false _ (c2 .before .before .if1 .left))
-    (and-yes (c2 .before .is-held2 .ensures K S e f) (not-false _ (c2 .if2 .left))
+    let at-if2 = c .before .before in
+    and-yes (at-if2 .before .before .before .is-held .ensures K S e f) (not-false _ (at-if2 .before .before .if1 .left))
+    (and-yes (at-if2 .before .is-held2 .ensures K S e f) (not-false _ (at-if2 .if2 .left))
     (and-no _ (c .before .is-held3 .ensures K S e f) (not-true _ (c .if3 .taken)))))
     (λ c κs. search needs)
     (λ c K S e f.
-    let c3 = c .before .before .before in
-    and-yes (c3 .before .before .before .is-held .ensures K S e f) (not-false _ (c3 .before .before .if1 .left))
-    (and-yes (c3 .before .is-held2 .ensures K S e f) (not-false _ (c3 .if2 .left))
+    let at-if2 = c .before .before .before in
+    and-yes (at-if2 .before .before .before .is-held .ensures K S e f) (not-false _ (at-if2 .before .before .if1 .left))
+    (and-yes (at-if2 .before .is-held2 .ensures K S e f) (not-false _ (at-if2 .if2 .left))
     (and-yes (c .before .before .is-held3 .ensures K S e f) (not-false _ (c .before .if3 .left)) (c .is-held4 .ensures K S e f)))))

@@ -20,17 +20,17 @@ branches-spec =
     (λ c. search needs)
     (λ c K e. record {
       says = λ B f F.
-          let c4 = c .before .before .before .before in
-          guard-yes _ _ _ (lt-ltb _ _ (c4 .before .if1 .left))
-          ∙ also-no _ (λ l. ltb _ l) (c4 .two .ensures K e .says B f F) _ (c .before .before .check .given .1) (le-ltb _ _ (c .if2 .taken));
+          let after-two = c .before .before .before .before in
+          guard-yes _ _ _ (lt-ltb _ _ (after-two .before .if1 .left))
+          ∙ also-no _ (λ l. ltb _ l) (after-two .two .ensures K e .says B f F) _ (c .before .before .check .given .1) (le-ltb _ _ (c .if2 .taken));
       low = tt;
     })
     (λ c. search needs)
     (λ c K e. record {
       says = λ B f F.
-          let c4 = c .before .before .before .before in
-          guard-yes _ _ _ (lt-ltb _ _ (c4 .before .if1 .left))
-          ∙ also-yes _ (λ l. ltb _ l) (c4 .two .ensures K e .says B f F) _ (c .before .before .check .given .1) (lt-ltb _ _ (c .if2 .left));
+          let after-two = c .before .before .before .before in
+          guard-yes _ _ _ (lt-ltb _ _ (after-two .before .if1 .left))
+          ∙ also-yes _ (λ l. ltb _ l) (after-two .two .ensures K e .says B f F) _ (c .before .before .check .given .1) (lt-ltb _ _ (c .if2 .left));
       low = subst (Low _) (c .before .before .check .given .1) (c .before .before .before .before .two .ensures K e .low);
     })
     (λ c K e. record {

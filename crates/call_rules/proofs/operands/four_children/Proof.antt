@@ -21,8 +21,8 @@ four-children-spec =
     (λ c κs. search needs)
     (λ c K e. record {
       says = λ B f F.
-          let c3 = c .before .before .before in
-          let h = c3 .before .all-held .ensures K _ e (plain-length K B _ _) ∙ not-false _ (c3 .if1 .left) in
+          let at-if1 = c .before .before .before in
+          let h = at-if1 .before .all-held .ensures K _ e (plain-length K B _ _) ∙ not-false _ (at-if1 .if1 .left) in
           let t = all-four _ _ _ _ h in
           let p = level-told K B _ _ (c .before .before .level .ensures .0) e f F (t .0) in
           still-no _ _ (four-apart K F _ _ _ _ h _ p (c .before .all-at .ensures K B _ e f F (t .1) (t .2) (t .3) ∙ not-true _ (c .if2 .taken))) _ refl;
@@ -30,8 +30,8 @@ four-children-spec =
     })
     (λ c K e. record {
       says = λ B f F.
-          let c4 = c .before .before .before .before in
-          let h = c4 .before .all-held .ensures K _ e (plain-length K B _ _) ∙ not-false _ (c4 .if1 .left) in
+          let at-if1 = c .before .before .before .before in
+          let h = at-if1 .before .all-held .ensures K _ e (plain-length K B _ _) ∙ not-false _ (at-if1 .if1 .left) in
           let t = all-four _ _ _ _ h in
           let p = level-told K B _ _ (c .before .before .before .level .ensures .0) e f F (t .0) in
           also-no _ (λ l. ltb l _) (four-are K F _ _ _ _ h _ p (c .before .before .all-at .ensures K B _ e f F (t .1) (t .2) (t .3)
@@ -40,8 +40,8 @@ four-children-spec =
     })
     (λ c K e. record {
       says = λ B f F.
-          let c4 = c .before .before .before .before in
-          let h = c4 .before .all-held .ensures K _ e (plain-length K B _ _) ∙ not-false _ (c4 .if1 .left) in
+          let at-if1 = c .before .before .before .before in
+          let h = at-if1 .before .all-held .ensures K _ e (plain-length K B _ _) ∙ not-false _ (at-if1 .if1 .left) in
           let t = all-four _ _ _ _ h in
           let p = level-told K B _ _ (c .before .before .before .level .ensures .0) e f F (t .0) in
           also-yes _ (λ l. ltb l _) (four-are K F _ _ _ _ h _ p (c .before .before .all-at .ensures K B _ e f F (t .1) (t .2) (t .3)

@@ -26,8 +26,8 @@ in-range x w p l n e f g h = lt-ltb x (2 ^ l) (subst (λ l. x < 2 ^ l) g (omega 
 -- the operand's level is at most 32
 level-low : (c : tie.After-check) → c .check .given .0 .0 ≤ 32
 level-low c =
-    let c4 = c .before .before .before .before in
-    let h = subst (Low _) (c .check .given .1) (c .before .before .one .ensures rel refl .low) in omega (arith, c4 .pre)
+    let entry = c .before .before .before .before in
+    let h = subst (Low _) (c .check .given .1) (c .before .before .one .ensures rel refl .low) in omega (arith, entry .pre)
 
 -- the first packet is out of range, the second is, or none
 module _ {X r : Check} (l n x y w p : ℕ) (C : X ≡ r) (e : r ≡ Level l) (en : n ≡ l) (ew : w ≡ x) (ep : p ≡ 2 ^ n) where
@@ -49,40 +49,40 @@ module _ {X r : Check} (l n x y w p : ℕ) (C : X ≡ r) (e : r ≡ Level l) (en
 
 returns : tie.Need-returns
 returns c =
-    let c3 = c .before .before .before in
-    let c5 = c3 .before .before in
-    let c7 = c5 .before .before in
+    let after-as-level = c .before .before .before in
+    let after-check = after-as-level .before .before in
+    let after-one = after-check .before .before in
     record {
       says = λ B f F.
-          first-out _ _ _ _ _ _ (c7 .one .ensures rel refl .says B f F) (c5 .check .given .1) (c3 .as-level .ensures) (c .before .as-u64 .ensures)
-          (c .before .before .power .ensures) (c .if1 .taken);
+          first-out _ _ _ _ _ _ (after-one .one .ensures rel refl .says B f F) (after-check .check .given .1) (after-as-level .as-level .ensures)
+          (c .before .as-u64 .ensures) (c .before .before .power .ensures) (c .if1 .taken);
       low = tt;
     }
 
 returns-2 : tie.Need-returns-2
 returns-2 c =
-    let c3 = c .before .before .before in
-    let c5 = c3 .before .before in
-    let c7 = c5 .before .before in
-    let c9 = c7 .before .before in
+    let after-as-u64 = c .before .before .before in
+    let after-as-level = after-as-u64 .before .before in
+    let after-check = after-as-level .before .before in
+    let after-one = after-check .before .before in
     record {
       says = λ B f F.
-          second-out _ _ _ _ _ _ (c9 .one .ensures rel refl .says B f F) (c7 .check .given .1) (c5 .as-level .ensures) (c3 .as-u64 .ensures)
-          (c3 .before .power .ensures) _ (c .before .before .if1 .left) (c .before .as-u642 .ensures) (c .if2 .taken);
+          second-out _ _ _ _ _ _ (after-one .one .ensures rel refl .says B f F) (after-check .check .given .1) (after-as-level .as-level .ensures)
+          (after-as-u64 .as-u64 .ensures) (after-as-u64 .before .power .ensures) _ (c .before .before .if1 .left) (c .before .as-u642 .ensures) (c .if2 .taken);
       low = tt;
     }
 
 returns-3 : tie.Need-returns-3
 returns-3 c =
-    let c3 = c .before .before .before in
-    let c5 = c3 .before .before in
-    let c7 = c5 .before .before in
-    let c9 = c7 .before .before in
+    let after-as-u64 = c .before .before .before in
+    let after-as-level = after-as-u64 .before .before in
+    let after-check = after-as-level .before .before in
+    let after-one = after-check .before .before in
     record {
       says = λ B f F.
-          both-in _ _ _ _ _ _ (c9 .one .ensures rel refl .says B f F) (c7 .check .given .1) (c5 .as-level .ensures) (c3 .as-u64 .ensures)
-          (c3 .before .power .ensures) _ (c .before .before .if1 .left) (c .before .as-u642 .ensures) (c .if2 .left);
-      low = subst (Low _) (c7 .check .given .1) (c9 .one .ensures rel refl .low);
+          both-in _ _ _ _ _ _ (after-one .one .ensures rel refl .says B f F) (after-check .check .given .1) (after-as-level .as-level .ensures)
+          (after-as-u64 .as-u64 .ensures) (after-as-u64 .before .power .ensures) _ (c .before .before .if1 .left) (c .before .as-u642 .ensures) (c .if2 .left);
+      low = subst (Low _) (after-check .check .given .1) (after-one .one .ensures rel refl .low);
     }
 
 returns-4 : tie.Need-returns-4

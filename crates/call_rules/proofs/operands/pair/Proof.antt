@@ -10,26 +10,27 @@ returns c = pair-no-relation _ _ _ _ _ _ _ (c .before .is-held .ensures) (not-tr
 
 returns-2 : tie.Need-returns-2
 returns-2 c =
-    let c3 = c .before .before .before in
-    pair-no-set _ _ _ _ _ _ _ (c3 .is-held .ensures) (not-false _ (c .before .before .if1 .left)) (c .before .is-held2 .ensures)
+    let after-is-held = c .before .before .before in
+    pair-no-set _ _ _ _ _ _ _ (after-is-held .is-held .ensures) (not-false _ (c .before .before .if1 .left)) (c .before .is-held2 .ensures)
     (not-true _ (c .if2 .taken))
 
 returns-3 : tie.Need-returns-3
 returns-3 c =
-    let c3 = c .before .before .before in
-    let c4 = c3 .before in
-    let c5 = c4 .before in
-    let c6 = c5 .before in
-    pair-levels-differ _ _ _ _ _ _ _ (c6 .is-held .ensures) (not-false _ (c5 .if1 .left)) (c4 .is-held2 .ensures) (not-false _ (c3 .if2 .left))
-    (c .before .before .level .ensures .0) (c .before .level2 .ensures .0) (c .if3 .taken)
+    let at-if2 = c .before .before .before in
+    let after-is-held2 = at-if2 .before in
+    let at-if1 = after-is-held2 .before in
+    let after-is-held = at-if1 .before in
+    pair-levels-differ _ _ _ _ _ _ _ (after-is-held .is-held .ensures) (not-false _ (at-if1 .if1 .left)) (after-is-held2 .is-held2 .ensures)
+    (not-false _ (at-if2 .if2 .left)) (c .before .before .level .ensures .0) (c .before .level2 .ensures .0) (c .if3 .taken)
 
 returns-4 : tie.Need-returns-4
 returns-4 c =
-    let c3 = c .before .before .before in
-    let c4 = c3 .before in
-    let c5 = c4 .before in
-    let c6 = c5 .before in
-    pair-goes _ _ _ _ _ _ _ (c6 .is-held .ensures) (not-false _ (c5 .if1 .left)) (c4 .is-held2 .ensures) (not-false _ (c3 .if2 .left))
+    let at-if2 = c .before .before .before in
+    let after-is-held2 = at-if2 .before in
+    let at-if1 = after-is-held2 .before in
+    let after-is-held = at-if1 .before in
+    pair-goes _ _ _ _ _ _ _ (after-is-held .is-held .ensures) (not-false _ (at-if1 .if1 .left)) (after-is-held2 .is-held2 .ensures)
+    (not-false _ (at-if2 .if2 .left))
     (c .before .before .level .ensures .0) (c .before .level2 .ensures .0) (c .before .before .level .ensures .1) (c .if3 .left)
 
 pub pair-spec : {M : Type 1} → statement M

@@ -10,27 +10,28 @@ returns c = path-no-output _ _ _ _ _ _ _ _ (c .before .is-held .ensures) (not-tr
 
 returns-2 : tie.Need-returns-2
 returns-2 c =
-    let c3 = c .before .before .before in
-    let c5 = c3 .before .before in
-    let c6 = c5 .before in
-    let c7 = c6 .before in
-    path-levels-differ _ _ _ _ _ _ _ _ (c7 .is-held .ensures) _ (not-false _ (c6 .if1 .left)) (c5 .pair .ensures) (c3 .check .given .1)
-    (c .before .level .ensures .0) (c .if2 .taken)
+    let after-check = c .before .before .before in
+    let after-pair = after-check .before .before in
+    let at-if1 = after-pair .before in
+    let after-is-held = at-if1 .before in
+    path-levels-differ _ _ _ _ _ _ _ _ (after-is-held .is-held .ensures) _ (not-false _ (at-if1 .if1 .left)) (after-pair .pair .ensures)
+    (after-check .check .given .1) (c .before .level .ensures .0) (c .if2 .taken)
 
 returns-3 : tie.Need-returns-3
 returns-3 c =
-    let c3 = c .before .before .before in
-    let c5 = c3 .before .before in
-    let c6 = c5 .before in
-    let c7 = c6 .before in
-    path-goes _ _ _ _ _ _ _ _ (c7 .is-held .ensures) _ (not-false _ (c6 .if1 .left)) (c5 .pair .ensures) (c3 .check .given .1)
+    let after-check = c .before .before .before in
+    let after-pair = after-check .before .before in
+    let at-if1 = after-pair .before in
+    let after-is-held = at-if1 .before in
+    path-goes _ _ _ _ _ _ _ _ (after-is-held .is-held .ensures) _ (not-false _ (at-if1 .if1 .left)) (after-pair .pair .ensures) (after-check .check .given .1)
     (c .before .level .ensures .0) (c .if2 .left)
 
 returns-4 : tie.Need-returns-4
 returns-4 c =
-    let c3 = c .before .before .before in
-    let c4 = c3 .before in
-    path-declined _ _ _ _ _ _ _ _ (c4 .is-held .ensures) _ (not-false _ (c3 .if1 .left)) (c .before .before .pair .ensures) _ (c .enum-told .given .1)
+    let at-if1 = c .before .before .before in
+    let after-is-held = at-if1 .before in
+    path-declined _ _ _ _ _ _ _ _ (after-is-held .is-held .ensures) _ (not-false _ (at-if1 .if1 .left)) (c .before .before .pair .ensures) _
+    (c .enum-told .given .1)
 
 pub path-spec : {M : Type 1} → statement M
 path-spec =

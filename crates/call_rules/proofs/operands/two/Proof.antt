@@ -27,18 +27,18 @@ two-spec =
     (λ c κs. search needs)
     (λ c K e. record {
       says = λ B f F.
-          let c3 = c .before .before .before in
-          let t = c3 .before .before .before .is-held .ensures K _ e (plain-length K B _ _) ∙ not-false _ (c3 .before .before .if1 .left) in
-          let u = c3 .before .is-held2 .ensures K _ e (plain-length K B _ _) ∙ not-false _ (c3 .if2 .left) in
+          let at-if2 = c .before .before .before in
+          let t = at-if2 .before .before .before .is-held .ensures K _ e (plain-length K B _ _) ∙ not-false _ (at-if2 .before .before .if1 .left) in
+          let u = at-if2 .before .is-held2 .ensures K _ e (plain-length K B _ _) ∙ not-false _ (at-if2 .if2 .left) in
           pair-apart K K F _ _ _ _ t u (level-told K B _ _ (c .before .before .level .ensures .0) e f F t)
           (level-told K B _ _ (c .before .level2 .ensures .0) e f F u) (c .if3 .taken);
       low = tt;
     })
     (λ c K e. record {
       says = λ B f F.
-          let c3 = c .before .before .before in
-          let t = c3 .before .before .before .is-held .ensures K _ e (plain-length K B _ _) ∙ not-false _ (c3 .before .before .if1 .left) in
-          let u = c3 .before .is-held2 .ensures K _ e (plain-length K B _ _) ∙ not-false _ (c3 .if2 .left) in
+          let at-if2 = c .before .before .before in
+          let t = at-if2 .before .before .before .is-held .ensures K _ e (plain-length K B _ _) ∙ not-false _ (at-if2 .before .before .if1 .left) in
+          let u = at-if2 .before .is-held2 .ensures K _ e (plain-length K B _ _) ∙ not-false _ (at-if2 .if2 .left) in
           pair-are K K F _ _ _ _ t u (level-told K B _ _ (c .before .before .level .ensures .0) e f F t)
           (level-told K B _ _ (c .before .level2 .ensures .0) e f F u) (c .if3 .left);
       low = c .before .before .level .ensures .1;

@@ -29,12 +29,12 @@ sub-at-most-32-2 c =
 
 returns-4 : tie.Need-returns-4
 returns-4 c =
-    let c3 = c .before .before .before in
-    let c4 = c3 .before in
-    let c5 = c4 .before in
+    let at-if2 = c .before .before .before in
+    let after-is-digit = at-if2 .before in
+    let at-if1 = after-is-digit .before in
     c .at-most-32 .ensures
-    ∙ both-digits _ _ _ _ (ne-eqb _ _ (c5 .if1 .left)) (c4 .is-digit .ensures) (not-false _ (c3 .if2 .left)) (c .before .before .is-digit2 .ensures)
-    (not-false _ (c .before .if3 .left))
+    ∙ both-digits _ _ _ _ (ne-eqb _ _ (at-if1 .if1 .left)) (after-is-digit .is-digit .ensures) (not-false _ (at-if2 .if2 .left))
+    (c .before .before .is-digit2 .ensures) (not-false _ (c .before .if3 .left))
 
 pub two-digits-spec : {M : Type 1} → statement M
 two-digits-spec =

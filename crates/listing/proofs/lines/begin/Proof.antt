@@ -6,11 +6,12 @@ use Rattle.listing.proofs.lines.begin.Tie as tie
 
 returns : tie.Need-returns
 returns c =
-    let c6 = c .before .before .before .before .before .before in
-    let c12 = c6 .before .before .before .before .before .before in
-    let c16 = c12 .before .before .before .before in
-    let c21 = c16 .before .before .before .before .before in
-    let a = c21 .args in begun _ _ _ _ (a .relations .now) (a .sets .now) _ _ (c16 .clear .ensures) (c12 .clear2 .ensures) (c6 .new .ensures .0)
+    let after-new = c .before .before .before .before .before .before in
+    let after-clear2 = after-new .before .before .before .before .before .before in
+    let after-clear = after-clear2 .before .before .before .before in
+    let entry = after-clear .before .before .before .before .before in
+    let a = entry .args in begun _ _ _ _ (a .relations .now) (a .sets .now) _ _ (after-clear .clear .ensures) (after-clear2 .clear2 .ensures)
+    (after-new .new .ensures .0)
 
 pub begin-spec : {M : Type 1} → statement M
 begin-spec =

@@ -6,8 +6,8 @@ use Rattle.listing.proofs.lines.policy_line.Tie as tie
 
 returns : tie.Need-returns
 returns c =
-    let c8 = c .before .before .before .before .before .before .before .before in
-    policy-added (c8 .policy .ensures .0) (c .before .before .answer-line .ensures)
+    let after-policy = c .before .before .before .before .before .before .before .before in
+    policy-added (after-policy .policy .ensures .0) (c .before .before .answer-line .ensures)
 
 pub policy-line-spec : {M : Type 1} → statement M
 policy-line-spec =

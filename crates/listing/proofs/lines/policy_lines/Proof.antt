@@ -25,27 +25,27 @@ loop-holds c =
 
 loop-again : tie.Need-loop-again Inv-loop μ-loop
 loop-again c =
-    let c6 = c .before .before .before .before .before .before in
-    let c11 = c6 .before .before .before .before .before in
-    let c13 = c11 .before .before in
-    let l = c13 .loop .inv in
-    let p = c6 .policy-line .ensures in
+    let after-policy-line = c .before .before .before .before .before .before in
+    let after-find = after-policy-line .before .before .before .before .before in
+    let at-loop = after-find .before .before in
+    let l = at-loop .loop .inv in
+    let p = after-policy-line .policy-line .ensures in
     let f = p .adds .few in (
       omega arith,
       omega arith,
       omega arith,
       omega arith,
       omega arith,
-      l .5 ∙ line-more _ _ _ (omega arith) (c11 .find .ensures .0) p,
+      l .5 ∙ line-more _ _ _ (omega arith) (after-find .find .ensures .0) p,
     )
 
 returns : tie.Need-returns Inv-loop μ-loop
 returns c =
-    let c7 = c .before .before .before .before .before .before .before in
+    let entry = c .before .before .before .before .before .before .before in
     let l0 = c .before .loop in
     let l = l0 .inv in record {
-      text = l .5 ∙ no-more (l0 .i) (memories (l0 .relations) (c7 .args .sets .now)) (l0 .at) (l0 .out)
-          (c7 .args .input .now) (l0 .from) (omega arith);
+      text = l .5 ∙ no-more (l0 .i) (memories (l0 .relations) (entry .args .sets .now)) (l0 .at) (l0 .out)
+          (entry .args .input .now) (l0 .from) (omega arith);
       few = omega arith;
     }
 

@@ -9,10 +9,10 @@ use Rattle.listing.proofs.writing.answer_line.Tie as tie
 returns : tie.Need-returns
 unfolding answer-line
 returns c =
-    let c7 = c .before .before .before .before .before .before .before in
-    let c11 = c7 .before .before .before .before in
-    let a = c11 .put-number .ensures in
-    let b = c7 .put-answer .ensures in
+    let after-put-answer = c .before .before .before .before .before .before .before in
+    let after-put-number = after-put-answer .before .before .before .before in
+    let a = after-put-number .put-number .ensures in
+    let b = after-put-answer .put-answer .ensures in
     let e = c .before .before .put .ensures in record
     { adds = adds-then (adds-then (a .adds) (b .adds)) e; few = omega (arith, e .end, b .few, a .few) }
 

@@ -9,8 +9,8 @@ use Rattle.listing.proofs.writing.first_line.Tie as tie
 returns : tie.Need-returns
 unfolding first-line
 returns c =
-    let c7 = c .before .before .before .before .before .before .before in
-    let a = c7 .put-number .ensures in
+    let after-put-number = c .before .before .before .before .before .before .before in
+    let a = after-put-number .put-number .ensures in
     let b = c .before .before .put .ensures in record { adds = adds-then (a .adds) b; few = omega (arith, b .end, a .few) }
 
 pub first-line-spec : {M : Type 1} → statement M

@@ -9,10 +9,10 @@ use Rattle.listing.proofs.writing.nodes_line.Tie as tie
 returns : tie.Need-returns
 unfolding nodes-line
 returns c =
-    let c7 = c .before .before .before .before .before .before .before in
-    let c12 = c7 .before .before .before .before .before in
-    let a = c12 .put-number .ensures in
-    let b = c7 .put-number2 .ensures in
+    let after-put-number2 = c .before .before .before .before .before .before .before in
+    let after-put-number = after-put-number2 .before .before .before .before .before in
+    let a = after-put-number .put-number .ensures in
+    let b = after-put-number2 .put-number2 .ensures in
     let e = c .before .before .put .ensures in record
     { adds = adds-then (adds-then (a .adds) (b .adds)) e; few = omega (arith, e .end, b .few, a .few) }
 

@@ -9,8 +9,8 @@ use Rattle.listing.proofs.writing.put.Tie as tie
 
 returns : tie.Need-returns
 returns c =
-    let c6 = c .before .before .before .before .before .before in
-    let a = c6 .args in put-adds (a .at) (length (a .out .now) - a .at) _ _ _ _ _ (omega arith) (c .before .before .copy .ensures .0)
+    let entry = c .before .before .before .before .before .before in
+    let a = entry .args in put-adds (a .at) (length (a .out .now) - a .at) _ _ _ _ _ (omega arith) (c .before .before .copy .ensures .0)
     (c .before .before .copy .ensures .1)
 
 pub put-spec : {M : Type 1} → statement M

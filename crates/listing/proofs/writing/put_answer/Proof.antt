@@ -10,13 +10,13 @@ use Rattle.listing.proofs.writing.put_answer.Tie as tie
 returns : tie.Need-returns
 unfolding shown
 returns c =
-    let c6 = c .before .before .before .before .before .before in
-    few-as (ap shown (sym (c6 .a .given .1))) (omega arith) (c .before .before .put-number .ensures)
+    let after-a = c .before .before .before .before .before .before in
+    few-as (ap shown (sym (after-a .a .given .1))) (omega arith) (c .before .before .put-number .ensures)
 
 returns-2 : tie.Need-returns-2
 returns-2 c =
-    let c5 = c .before .before .before .before .before in
-    few-as (ap shown (sym (c5 .a2 .given .1))) (omega arith) (c .before .before .put-refusal .ensures)
+    let after-a2 = c .before .before .before .before .before in
+    few-as (ap shown (sym (after-a2 .a2 .given .1))) (omega arith) (c .before .before .put-refusal .ensures)
 
 pub put-answer-spec : {M : Type 1} → statement M
 put-answer-spec =

@@ -8,18 +8,18 @@ use Rattle.listing.proofs.writing.put_number.Tie as tie
 
 put-requires-2 : tie.Need-put-requires-2
 put-requires-2 c κs =
-    let c6 = c .before .before .before .before .before .before in
-    let c10 = c6 .before .before .before .before in
+    let after-put = c .before .before .before .before .before .before in
+    let entry = after-put .before .before .before .before in
     let d = c .before .before .decimal .ensures in
-    let few = few-digits (c10 .args .n) (c .before .before .decimal .result) (omega arith) (d .1 .0) in omega (arith, d .0 .1, c6 .put .ensures .end)
+    let few = few-digits (entry .args .n) (c .before .before .decimal .result) (omega arith) (d .1 .0) in omega (arith, d .0 .1, after-put .put .ensures .end)
 
 returns : tie.Need-returns
 returns c =
-    let c5 = c .before .before .before .before .before in
-    let c9 = c5 .before .before .before .before in
-    let c13 = c9 .before .before .before .before in
-    let d = c5 .decimal .ensures in number-adds (c13 .args .n) (c5 .decimal .result) (omega arith) (c9 .put .ensures) (d .1 .0) (d .0 .1) (d .1 .1)
-    (c .before .before .put2 .ensures)
+    let after-decimal = c .before .before .before .before .before in
+    let after-put = after-decimal .before .before .before .before in
+    let entry = after-put .before .before .before .before in
+    let d = after-decimal .decimal .ensures in number-adds (entry .args .n) (after-decimal .decimal .result) (omega arith) (after-put .put .ensures) (d .1 .0)
+    (d .0 .1) (d .1 .1) (c .before .before .put2 .ensures)
 
 pub put-number-spec : {M : Type 1} → statement M
 put-number-spec =

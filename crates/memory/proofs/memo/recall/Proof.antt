@@ -7,9 +7,9 @@ use Rattle.memory.proofs.memo.recall.Tie as tie
 
 returns-6 : tie.Need-returns-6
 returns-6 c =
-    let b = c .before .before .before .before .before in
-    recalls-hit _ (b .before .before .slot .result) _ _ _ _ (omega arith) (omega arith) (omega arith) (omega arith)
-    (b .if3 .left) (c .before .before .before .if4 .left) (c .before .if5 .left)
+    let at-if3 = c .before .before .before .before .before in
+    recalls-hit _ (at-if3 .before .before .slot .result) _ _ _ _ (omega arith) (omega arith) (omega arith) (omega arith)
+    (at-if3 .if3 .left) (c .before .before .before .if4 .left) (c .before .if5 .left)
 
 pub recall-spec : {M : Type 1} → statement M
 recall-spec =

@@ -87,24 +87,24 @@ pub +walked-spec : {M : Type 1} → statement M
     (λ c κs. omega (arith, c .before .before .before .before .before .before .if1 .left))
     (λ c κs. search needs)
     (λ c.
-    let c3 = c .before .before .before in
-    let c5 = c3 .before .before in
-    let c7 = c5 .before .before in
-    let c8 = c7 .before in
-    let s = c8 .before .before .args in
-    let x = c7 .child-of .result in
-    let p = c5 .properties-in in
-    let pos : 0 < s .level = omega (arith, c8 .if1 .left) in
+    let after-both = c .before .before .before in
+    let after-properties-in = after-both .before .before in
+    let after-child-of = after-properties-in .before .before in
+    let at-if1 = after-child-of .before in
+    let s = at-if1 .before .before .args in
+    let x = after-child-of .child-of .result in
+    let p = after-properties-in .properties-in in
+    let pos : 0 < s .level = omega (arith, at-if1 .if1 .left) in
     λ K w a. record {
       tells = λ k B n r F W A.
           let r′ = room K (s .c) n (s .nodes .now) a r in
           let S = plain K B (s .nodes .now) n in
           let v = level-within K S (s .level) (s .h) pos A in
-          let e = c7 .child-of .ensures K B n a r′ v in
-          let all = c3 .before .children-are .ensures K B n a r′ v in
+          let e = after-child-of .child-of .ensures K B n a r′ v in
+          let all = after-both .before .children-are .ensures K B n a r′ v in
           let D = first-held K (s .c) (s .level) (s .h) x _ false (p .result) a F pos A e all in
-          let H = subst (Has K S _ _) (sym (p .ensures)) (c5 .before .walked .ensures K w a .tells k B n r F W D) in
-          let is = c .word-of .ensures .0 (c .word-of .ensures .1 (omega arith)) ∙ rw (c3 .both .ensures, c .before .before .both2 .ensures) in
+          let H = subst (Has K S _ _) (sym (p .ensures)) (after-properties-in .before .walked .ensures K w a .tells k B n r F W D) in
+          let is = c .word-of .ensures .0 (c .word-of .ensures .1 (omega arith)) ∙ rw (after-both .both .ensures, c .before .before .both2 .ensures) in
           subst (Has K S _ _) (sym is) (walked-has K (s .c) (s .level) (s .h) x _ (c .before .is-identity .result) (p .result) a F pos A e all H
           (of-rel K k B (s .nodes .now) (s .c) n (s .level) (s .h) x _ _ a F A r e (H .identity) (c .before .is-identity .ensures k B n)));
     }))

@@ -9,9 +9,9 @@ use Rattle.memory.proofs.property_words.child_of.Tie as tie
 
 returns : tie.Need-returns
 returns c =
-    let s = c .before .before .before in
-    λ K B n a r w. absurd (child-there K B (s .args .nodes .now) (s .args .c) n (s .args .h) (s .args .d) _ a r w (s .pre) (c .before .place-of .ensures K a)
-    (c .if1 .taken))
+    let entry = c .before .before .before in
+    λ K B n a r w. absurd (child-there K B (entry .args .nodes .now) (entry .args .c) n (entry .args .h) (entry .args .d) _ a r w (entry .pre)
+    (c .before .place-of .ensures K a) (c .if1 .taken))
 
 -- the place's numbers are in the slice
 room : (c : tie.Else1) → c .before .before .before .args .c * c .before .place-of .result + c .before .before .before .args .c
@@ -32,22 +32,25 @@ shared-slice-read-x c = omega (arith, room (c .before))
 
 returns-2 : tie.Need-returns-2
 returns-2 c =
-    let p = c .before .before .before .before .before in
-    let s = p .before .before in
-    λ K B n a r w. child-odd K B (s .args .nodes .now) (s .args .c) n (s .args .h) (s .args .d) _ a r w (s .pre) (p .place-of .ensures K a)
+    let after-place-of = c .before .before .before .before .before in
+    let entry = after-place-of .before .before in
+    λ K B n a r w. child-odd K B (entry .args .nodes .now) (entry .args .c) n (entry .args .h) (entry .args .d) _ a r w (entry .pre)
+    (after-place-of .place-of .ensures K a)
     _ (c .before .before .if2 .taken) (c .before .if3 .taken) (c .other .ensures)
 
 returns-3 : tie.Need-returns-3
 returns-3 c =
-    let p = c .before .before .before .before in
-    let s = p .before .before in
-    λ K B n a r w. child-even K B (s .args .nodes .now) (s .args .c) n (s .args .h) (s .args .d) _ a r w (s .pre) (p .place-of .ensures K a) (c .if3 .left)
+    let after-place-of = c .before .before .before .before in
+    let entry = after-place-of .before .before in
+    λ K B n a r w. child-even K B (entry .args .nodes .now) (entry .args .c) n (entry .args .h) (entry .args .d) _ a r w (entry .pre)
+    (after-place-of .place-of .ensures K a) (c .if3 .left)
 
 returns-4 : tie.Need-returns-4
 returns-4 c =
-    let p = c .before .before .before in
-    let s = p .before .before in
-    λ K B n a r w. child-rel K B (s .args .nodes .now) (s .args .c) n (s .args .h) (s .args .d) _ a r w (s .pre) (p .place-of .ensures K a) (c .if2 .left)
+    let after-place-of = c .before .before .before in
+    let entry = after-place-of .before .before in
+    λ K B n a r w. child-rel K B (entry .args .nodes .now) (entry .args .c) n (entry .args .h) (entry .args .d) _ a r w (entry .pre)
+    (after-place-of .place-of .ensures K a) (c .if2 .left)
 
 pub child-of-spec : {M : Type 1} → statement M
 child-of-spec =

@@ -26,8 +26,8 @@ loop-holds c = (omega arith, λ K B n a r w j l. absurd (omega arith))
 returns : tie.Need-returns Inv-loop μ-loop
 returns c =
     let l = c .before .before .before .loop in
-    let s = c .before .before .before .before .before in
-    λ K B n a r w. sym (all-false (s .args .c) _ (l .d) (omega arith)
+    let entry = c .before .before .before .before .before in
+    λ K B n a r w. sym (all-false (entry .args .c) _ (l .d) (omega arith)
     (ne-eqb _ _ (λ e. c .if1 .taken (c .before .child-of .ensures K B n a r w ∙ e))))
 
 loop-again : tie.Need-loop-again Inv-loop μ-loop
@@ -40,8 +40,8 @@ loop-again c =
 returns-2 : tie.Need-returns-2 Inv-loop μ-loop
 returns-2 c =
     let l = c .before .loop in
-    let s = c .before .before .before in
-    λ K B n a r w. sym (all-true (s .args .c) _ (λ d g. eq-eqb _ _ (l .inv .1 K B n a r w d (omega arith))))
+    let entry = c .before .before .before in
+    λ K B n a r w. sym (all-true (entry .args .c) _ (λ d g. eq-eqb _ _ (l .inv .1 K B n a r w d (omega arith))))
 
 pub children-are-spec : {M : Type 1} → statement M
 children-are-spec =

@@ -12,21 +12,21 @@ use Rattle.memory.proofs.property_words.gather.Tie as tie
 
 returns : tie.Need-returns
 returns c =
-    let c5 = c .before .before .before .before .before in
-    let c8 = c5 .before .before .before in
-    let a = c8 .args in
+    let at-if1 = c .before .before .before .before .before in
+    let entry = at-if1 .before .before .before in
+    let a = entry .args in
     λ K z. is-rel (λ K. Gathers K (Words (a .work .now)) (a .x .now) (c .gather-relation .result)) _ (λ e. omega arith)
-    (subst (λ x. Gathers rel (Words (a .work .now)) x (c .gather-relation .result)) (sym (four-numbers (a .x .now) (c5 .if1 .taken)))
+    (subst (λ x. Gathers rel (Words (a .work .now)) x (c .gather-relation .result)) (sym (four-numbers (a .x .now) (at-if1 .if1 .taken)))
     (c .gather-relation .ensures)) K z
 
 returns-2 : tie.Need-returns-2
 returns-2 c =
-    let c3 = c .before .before .before in
-    let c8 = c3 .before .before .before .before .before in
-    let a = c8 .args in
+    let after-words-start = c .before .before .before in
+    let entry = after-words-start .before .before .before .before .before in
+    let a = entry .args in
     λ K z. is-set (λ K. Gathers K (Words (a .work .now)) (a .x .now) (c .set-word .result))
-    (gathers-in (a .work .now) (a .x .now) (c3 .words-start .result) (c .before .before .words-end .result) _
-    (c3 .words-start .ensures .0 set (omega arith))
+    (gathers-in (a .work .now) (a .x .now) (after-words-start .words-start .result) (c .before .before .words-end .result) _
+    (after-words-start .words-start .ensures .0 set (omega arith))
     (c .before .before .words-end .ensures .1) (c .before .before .words-end .ensures .2) (c .set-word .ensures)) K (omega arith)
 
 returns-3 : tie.Need-returns-3

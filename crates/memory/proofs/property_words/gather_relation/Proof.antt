@@ -8,10 +8,10 @@ use Rattle.memory.proofs.property_words.gather_relation.Tie as tie
 
 returns : tie.Need-returns
 returns c =
-    let c3 = c .before .before .before in
-    let c5 = c3 .before .before in
-    gathers-in (c5 .args .work .now) _ (c3 .words-start .result) (c .before .before .words-end .result) _ (c3 .words-start .ensures .0 rel refl)
-    (c .before .before .words-end .ensures .1)
+    let after-words-start = c .before .before .before in
+    let entry = after-words-start .before .before in
+    gathers-in (entry .args .work .now) _ (after-words-start .words-start .result) (c .before .before .words-end .result) _
+    (after-words-start .words-start .ensures .0 rel refl) (c .before .before .words-end .ensures .1)
     (c .before .before .words-end .ensures .2) (c .relation-word .ensures)
 
 pub gather-relation-spec : {M : Type 1} → statement M

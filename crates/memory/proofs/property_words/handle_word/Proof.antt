@@ -1,4 +1,5 @@
--- `memory::property_words::handle_word` meets its contract: the constants' words are known, a node's is at its place, and a set's odd handle has the opposite word.
+-- `memory::property_words::handle_word` meets its contract: the constants' words are known, a node's is at its place, and a set's odd handle has the
+-- opposite word.
 use mathlib.Core.Path.{_≡_, subst}
 use mathlib.Core.List.{List}
 use Prim.Native.Nat.{ℕ, _<_}
@@ -25,23 +26,23 @@ returns-2 c = λ K k S e F W. known-nothing _ (omega arith)
 
 returns-3 : tie.Need-returns-3
 returns-3 c =
-    let c5 = c .before .before .before .before .before in
-    let c8 = c5 .before .before .before in
-    let a = c8 .args in
-    let v = getD (a .words .now) (c5 .place-of .result) 0 in
+    let after-place-of = c .before .before .before .before .before in
+    let entry = after-place-of .before .before .before in
+    let a = entry .args in
+    let v = getD (a .words .now) (after-place-of .place-of .result) 0 in
     λ K k S e F W. is-set (λ (K : Kind). Known K S (handle-of K 0 (index K (a .h))) v → Known K S (a .h) (c .opposite-word .result))
     (λ o. subst (λ (g : ℕ). Known set S g (c .opposite-word .result)) (omega arith)
     (c .opposite-word .ensures k S (handle-of set 0 (index set (a .h))) F o))
-    K (omega arith) (placed K S (a .words .now) (a .h) _ (c5 .place-of .ensures K e) (omega arith) W)
+    K (omega arith) (placed K S (a .words .now) (a .h) _ (after-place-of .place-of .ensures K e) (omega arith) W)
 
 returns-4 : tie.Need-returns-4
 returns-4 c =
-    let c4 = c .before .before .before .before in
-    let c7 = c4 .before .before .before in
-    let a = c7 .args in
-    let v = getD (a .words .now) (c4 .place-of .result) 0 in
+    let after-place-of = c .before .before .before .before in
+    let entry = after-place-of .before .before .before in
+    let a = entry .args in
+    let v = getD (a .words .now) (after-place-of .place-of .result) 0 in
     λ K k S e F W. subst (λ (g : ℕ). Known K S g v) (is-set (λ (K : Kind). handle-of K 0 (index K (a .h)) ≡ a .h) (omega arith) K (omega arith))
-    (placed K S (a .words .now) (a .h) _ (c4 .place-of .ensures K e) (omega arith) W)
+    (placed K S (a .words .now) (a .h) _ (after-place-of .place-of .ensures K e) (omega arith) W)
 
 returns-5 : tie.Need-returns-5
 returns-5 c =

@@ -14,9 +14,9 @@ returns c = λ k B n a. absurd (c .if1 .taken a)
 
 returns-2 : tie.Need-returns-2
 returns-2 c =
-    let c5 = c .before .before .before .before .before in
-    let s = c5 .args in
-    let pos = c5 .pre in
+    let entry = c .before .before .before .before .before in
+    let s = entry .args in
+    let pos = entry .pre in
     λ k B n a r F A e q.
     let w = level-within rel (plain rel B (s .nodes .now) n) (s .level) (s .h) pos A in
     sym (identity-off (s .level) (s .h) F pos A (c .before .before .child-of .ensures rel B n refl r w)
@@ -32,31 +32,32 @@ returns-3 c =
 
 returns-4 : tie.Need-returns-4
 returns-4 c =
-    let c6 = c .before .before .before .before .before .before in
-    let c9 = c6 .before .before .before in
-    let s = c9 .args in
-    let pos = c9 .pre in
+    let after-child-of = c .before .before .before .before .before .before in
+    let entry = after-child-of .before .before .before in
+    let s = entry .args in
+    let pos = entry .pre in
     λ k B n a r F A e q.
     let w = level-within rel (plain rel B (s .nodes .now) n) (s .level) (s .h) pos A in
-    let e1 = c6 .child-of .ensures rel B n refl r w in
+    let e1 = after-child-of .child-of .ensures rel B n refl r w in
     let x = identity-held (s .level) (s .h) F pos A 1 (omega arith) e1 in
     sym (identity-some (s .level) (s .h) F pos A e1 (c .before .walks-to .ensures rel k B n refl r F x) (not-true _ (c .if4 .taken)))
 
 returns-5 : tie.Need-returns-5
 returns-5 c =
-    let c3 = c .before .before .before in
-    let c4 = c3 .before in
-    let c5 = c4 .before in
-    let c6 = c5 .before in
-    let c9 = c6 .before .before .before in
-    let s = c9 .args in
-    let pos = c9 .pre in
+    let after-child-of3 = c .before .before .before in
+    let at-if2 = after-child-of3 .before in
+    let after-child-of2 = at-if2 .before in
+    let after-child-of = after-child-of2 .before in
+    let entry = after-child-of .before .before .before in
+    let s = entry .args in
+    let pos = entry .pre in
     λ k B n a r F A e q.
     let w = level-within rel (plain rel B (s .nodes .now) n) (s .level) (s .h) pos A in
-    let e1 = c6 .child-of .ensures rel B n refl r w in
+    let e1 = after-child-of .child-of .ensures rel B n refl r w in
     let x = identity-held (s .level) (s .h) F pos A 1 (omega arith) e1 in
-    q ∙ sym (identity-next (s .level) (s .h) F pos A e e1 (c5 .child-of2 .ensures rel B n refl r w) (c3 .child-of3 .ensures rel B n refl r w)
-    (c4 .if2 .left) (c .before .before .if3 .left) (c .before .walks-to .ensures rel k B n refl r F x) (not-false _ (c .if4 .left)))
+    q ∙ sym (identity-next (s .level) (s .h) F pos A e e1 (after-child-of2 .child-of2 .ensures rel B n refl r w)
+    (after-child-of3 .child-of3 .ensures rel B n refl r w)
+    (at-if2 .if2 .left) (c .before .before .if3 .left) (c .before .walks-to .ensures rel k B n refl r F x) (not-false _ (c .if4 .left)))
 
 pub is-identity-spec : {M : Type 1} → statement M
 is-identity-spec =

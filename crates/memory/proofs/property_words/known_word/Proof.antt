@@ -6,12 +6,12 @@ use Rattle.memory.proofs.property_words.known_word.Tie as tie
 
 returns : tie.Need-returns
 returns c =
-    let c3 = c .before .before .before in
-    let c5 = c3 .before .before in
-    let s = c5 .args in
+    let after-words-start = c .before .before .before in
+    let entry = after-words-start .before .before in
+    let s = entry .args in
     λ K k S a F W. c .handle-word .ensures K k S a F
-    (words-part K (s .work .now) S (c3 .words-start .result) (c .before .before .words-end .result) (c3 .words-start .ensures .0 K a)
-    (c .before .before .words-end .ensures .1) (c .before .before .words-end .ensures .2) W)
+    (words-part K (s .work .now) S (after-words-start .words-start .result) (c .before .before .words-end .result)
+    (after-words-start .words-start .ensures .0 K a) (c .before .before .words-end .ensures .1) (c .before .before .words-end .ensures .2) W)
 
 pub known-word-spec : {M : Type 1} → statement M
 known-word-spec =

@@ -28,9 +28,9 @@ child-of-requires c κs = search needs
 
 loop-again : tie.Need-loop-again Inv-loop μ-loop
 loop-again c =
-    let c3 = c .before .before .before in (
+    let at-loop = c .before .before .before in (
       omega arith,
-      λ K B n t e p A b. let G = c3 .loop .inv .1 K B n t e p A b in
+      λ K B n t e p A b. let G = at-loop .loop .inv .1 K B n t e p A b in
           let o = c .before .if1 .left in descended-next o (c .child-of .ensures K B n e p (descended-within o G)) G,
     )
 

@@ -26,24 +26,24 @@ add-l c = omega (arith, ap (λ (r : Properties). r .level) (c .before .before .s
 
 returns-5 : tie.Need-returns-5
 returns-5 c =
-    let c3 = c .before .before .before in
-    let c5 = c3 .before .before in
-    let c6 = c5 .before in
-    let c7 = c6 .before in
-    let c8 = c7 .before in
-    let c9 = c8 .before in
-    let c11 = c9 .before .before in
-    let c12 = c11 .before in
-    let c13 = c12 .before in
-    let c14 = c13 .before in
-    let c16 = c14 .before .before in
-    relation-gathers (WordsOf rel (c16 .args .words .now)) _ (c14 .handle-word .result) (c13 .handle-word2 .result) (c12 .handle-word3 .result)
-    (c11 .handle-word4 .result) _
-    (λ k S F W. c14 .handle-word .ensures rel k S refl F W) (λ k S F W. c13 .handle-word2 .ensures rel k S refl F W)
-    (λ k S F W. c12 .handle-word3 .ensures rel k S refl F W) (λ k S F W. c11 .handle-word4 .ensures rel k S refl F W)
-    (omega arith) (c9 .if2 .left) (c8 .if3 .left) (c7 .if4 .left)
-    (λ p. c .word-of .ensures .0 p ∙ relation-properties (c3 .both .ensures) (c .before .before .both2 .ensures) (c .before .both3 .ensures)
-    (c6 .shared .ensures) (c5 .shared2 .ensures))
+    let after-both = c .before .before .before in
+    let after-shared2 = after-both .before .before in
+    let after-shared = after-shared2 .before in
+    let at-if4 = after-shared .before in
+    let at-if3 = at-if4 .before in
+    let at-if2 = at-if3 .before in
+    let after-handle-word4 = at-if2 .before .before in
+    let after-handle-word3 = after-handle-word4 .before in
+    let after-handle-word2 = after-handle-word3 .before in
+    let after-handle-word = after-handle-word2 .before in
+    let entry = after-handle-word .before .before in
+    relation-gathers (WordsOf rel (entry .args .words .now)) _ (after-handle-word .handle-word .result) (after-handle-word2 .handle-word2 .result)
+    (after-handle-word3 .handle-word3 .result) (after-handle-word4 .handle-word4 .result) _
+    (λ k S F W. after-handle-word .handle-word .ensures rel k S refl F W) (λ k S F W. after-handle-word2 .handle-word2 .ensures rel k S refl F W)
+    (λ k S F W. after-handle-word3 .handle-word3 .ensures rel k S refl F W) (λ k S F W. after-handle-word4 .handle-word4 .ensures rel k S refl F W)
+    (omega arith) (at-if2 .if2 .left) (at-if3 .if3 .left) (at-if4 .if4 .left)
+    (λ p. c .word-of .ensures .0 p ∙ relation-properties (after-both .both .ensures) (c .before .before .both2 .ensures) (c .before .both3 .ensures)
+    (after-shared .shared .ensures) (after-shared2 .shared2 .ensures))
 
 pub relation-word-spec : {M : Type 1} → statement M
 relation-word-spec =

@@ -22,14 +22,14 @@ add-l c = omega (arith, ap (λ (r : Properties). r .level) (c .before .shared .e
 
 returns-3 : tie.Need-returns-3
 returns-3 c =
-    let c3 = c .before .before .before in
-    let c5 = c3 .before .before in
-    let c7 = c5 .before .before in
-    let c11 = c7 .before .before .before .before in
-    let a = c11 .args in
-    set-gathers (WordsOf set (a .words .now)) (a .x .now) (c7 .handle-word .result) (c5 .handle-word2 .result) _
-    (λ k S F W. c7 .handle-word .ensures set k S refl F W) (λ k S F W. c5 .handle-word2 .ensures set k S refl F W) (omega arith) (c3 .if2 .left)
-    (λ p. c .word-of .ensures .0 p ∙ ap (λ (r : Properties). properties (r .empty) (r .universal) false (r .level + 1))
+    let at-if2 = c .before .before .before in
+    let after-handle-word2 = at-if2 .before .before in
+    let after-handle-word = after-handle-word2 .before .before in
+    let entry = after-handle-word .before .before .before .before in
+    let a = entry .args in
+    set-gathers (WordsOf set (a .words .now)) (a .x .now) (after-handle-word .handle-word .result) (after-handle-word2 .handle-word2 .result) _
+    (λ k S F W. after-handle-word .handle-word .ensures set k S refl F W) (λ k S F W. after-handle-word2 .handle-word2 .ensures set k S refl F W) (omega arith)
+    (at-if2 .if2 .left) (λ p. c .word-of .ensures .0 p ∙ ap (λ (r : Properties). properties (r .empty) (r .universal) false (r .level + 1))
     (c .before .before .shared .ensures))
 
 pub set-word-spec : {M : Type 1} → statement M

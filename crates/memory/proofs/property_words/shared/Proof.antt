@@ -6,10 +6,10 @@ use Rattle.memory.proofs.property_words.shared.Tie as tie
 
 returns : tie.Need-returns
 returns c =
-    let c3 = c .before .before .before in
-    let c4 = c3 .before in
-    both-properties (c .before .before .both .ensures) (c .before .both2 .ensures) (c .both3 .ensures) (c4 .properties-in .ensures)
-    (c3 .properties-in2 .ensures)
+    let after-properties-in2 = c .before .before .before in
+    let after-properties-in = after-properties-in2 .before in
+    both-properties (c .before .before .both .ensures) (c .before .both2 .ensures) (c .both3 .ensures) (after-properties-in .properties-in .ensures)
+    (after-properties-in2 .properties-in2 .ensures)
 
 pub shared-spec : {M : Type 1} → statement M
 shared-spec =

@@ -17,14 +17,16 @@ behind c K l e = ⊎-elim (λ w. is-set (λ K. memo-size l + c .if1 .after ≡ w
 
 returns : tie.Need-returns
 returns c =
-    let c3 = c .before .before .before in
-    (λ K e. omega (arith, behind (c .before) K (c3 .args .len) e, c .before .before .memo-size .ensures), omega arith)
+    let entry = c .before .before .before in
+    (λ K e. omega (arith, behind (c .before) K (entry .args .len) e, c .before .before .memo-size .ensures), omega arith)
 
 returns-2 : tie.Need-returns-2
 returns-2 c =
-    let c3 = c .before .before .before in
-    let c4 = c3 .before in
-    (λ K e. omega (arith, behind (c .before .before) K (c4 .args .len) e, c3 .memo-size .ensures), omega (arith, c3 .memo-size .ensures))
+    let after-memo-size = c .before .before .before in
+    let entry = after-memo-size .before in (
+      λ K e. omega (arith, behind (c .before .before) K (entry .args .len) e, after-memo-size .memo-size .ensures),
+      omega (arith, after-memo-size .memo-size .ensures),
+    )
 
 pub words-start-spec : {M : Type 1} → statement M
 words-start-spec = tie.close (tie.spec (λ c κs. search needs) (λ c. search needs) returns (λ c. search needs) returns-2)

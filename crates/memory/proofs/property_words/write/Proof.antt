@@ -14,8 +14,8 @@ returns c = λ K e. inl (omega (arith, c .before .words-start .ensures .0 K e), 
 
 returns-2 : tie.Need-returns-2
 returns-2 c =
-    let c3 = c .before .before .before in
-    let a = c3 .args in
+    let entry = c .before .before .before in
+    let a = entry .args in
     λ K e.
     let q : c .before .words-start .result + a .n ≡ words-at K (length (a .work .now)) + a .n = omega
     (arith, c .before .words-start .ensures .0 K e) in

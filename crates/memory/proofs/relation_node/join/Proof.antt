@@ -44,69 +44,69 @@ returns-3 c =
 chase-requires : tie.Need-chase-requires
 chase-requires c κs =
     let hash = c .before .before .hash in
-    let c4 = c .before .before .before .before in
-    let a = c4 .before .before .before .before .before .before .before .args in
-    let l = c4 .places-of .ensures in
+    let after-places-of = c .before .before .before .before in
+    let a = after-places-of .before .before .before .before .before .before .before .args in
+    let l = after-places-of .places-of .ensures in
     (places-fit 4 (a .nodes .now) (a .s .n) (omega (arith, l)), omega arith, omega (arith, l), hash .ensures .1, hash .ensures .0)
 
 returns-4 : tie.Need-returns-4
 returns-4 c =
-    let c6 = c .before .before .before .before .before .before in
-    let c10 = c6 .before .before .before .before in
-    let a = c10 .before .before .before .args in
+    let after-places-of = c .before .before .before .before .before .before in
+    let after-memo-size = after-places-of .before .before .before .before in
+    let a = after-memo-size .before .before .before .args in
     let x = a .x00 ∷ a .x01 ∷ a .x10 ∷ a .x11 ∷ [] in
     let chase = c .before .chase in
     record {
-      small = omega (arith, c6 .places-of .ensures);
-      node = λ K y z e. joins-found y x (not-false _ (c6 .before .if2 .left)) z e (chase .result)
-          (λ good ix. chase .ensures good (c10 .memo-size .ensures .0) ix) (c .if4 .taken);
+      small = omega (arith, after-places-of .places-of .ensures);
+      node = λ K y z e. joins-found y x (not-false _ (after-places-of .before .if2 .left)) z e (chase .result)
+          (λ good ix. chase .ensures good (after-memo-size .memo-size .ensures .0) ix) (c .if4 .taken);
     }
 
 returns-5 : tie.Need-returns-5
 returns-5 c =
-    let c8 = c .before .before .before .before .before .before .before .before in
-    let c12 = c8 .before .before .before .before in
-    let a = c12 .before .before .before .args in
+    let after-places-of = c .before .before .before .before .before .before .before .before in
+    let after-memo-size = after-places-of .before .before .before .before in
+    let a = after-memo-size .before .before .before .args in
     let x = a .x00 ∷ a .x01 ∷ a .x10 ∷ a .x11 ∷ [] in
     let chase = c .before .before .before .chase in
-    let l : places 4 (a .nodes .now) ≤ a .s .n = omega (arith, c8 .places-of .ensures) in
+    let l : places 4 (a .nodes .now) ≤ a .s .n = omega (arith, after-places-of .places-of .ensures) in
     failed (c .fails3 .ensures)
-    (λ K y z e. joins-full y x (not-false _ (c8 .before .if2 .left)) z e (chase .result)
-    (λ good ix. chase .ensures good (c12 .memo-size .ensures .0) ix) (λ h. omega arith) l)
+    (λ K y z e. joins-full y x (not-false _ (after-places-of .before .if2 .left)) z e (chase .result)
+    (λ good ix. chase .ensures good (after-memo-size .memo-size .ensures .0) ix) (λ h. omega arith) l)
 
 put-requires : tie.Need-put-requires
 put-requires c κs =
-    let c8 = c .before .before .before .before .before .before .before .before in
-    let a = c8 .before .before .before .before .before .before .before .args in
-    place-fits 4 (a .nodes .now) (a .s .n) (omega (arith, c8 .places-of .ensures))
+    let after-places-of = c .before .before .before .before .before .before .before .before in
+    let a = after-places-of .before .before .before .before .before .before .before .args in
+    place-fits 4 (a .nodes .now) (a .s .n) (omega (arith, after-places-of .places-of .ensures))
 
 link-requires : tie.Need-link-requires
 link-requires c κs =
-    let c8 = c .before .before .before .before .before .before .before .before in
-    let c16 = c8 .before .before .before .before .before .before .before .before in
-    let hash = c8 .before .before .before .before .before .before .hash in
-    (omega (arith, c .before .before .before .note .kept), omega (arith, c16 .places-of .ensures), hash .ensures .1)
+    let after-put-arg = c .before .before .before .before .before .before .before .before in
+    let after-places-of = after-put-arg .before .before .before .before .before .before .before .before in
+    let hash = after-put-arg .before .before .before .before .before .before .hash in
+    (omega (arith, c .before .before .before .note .kept), omega (arith, after-places-of .places-of .ensures), hash .ensures .1)
 
 returns-6 : tie.Need-returns-6
 returns-6 c =
-    let c6 = c .before .before .before .before .before .before in
-    let c10 = c6 .before .before .before .before in
-    let c14 = c10 .before .before .before .before in
-    let c17 = c14 .before .before .before in
-    let c19 = c17 .before .before in
-    let c23 = c19 .before .before .before .before in
-    let a = c23 .before .before .before .args in
+    let after-note = c .before .before .before .before .before .before in
+    let after-put = after-note .before .before .before .before in
+    let after-chase = after-put .before .before .before .before in
+    let after-hash = after-chase .before .before .before in
+    let after-places-of = after-hash .before .before in
+    let after-memo-size = after-places-of .before .before .before .before in
+    let a = after-memo-size .before .before .before .args in
     let m = a .nodes .now in
     let n = a .s .n in
     let x = a .x00 ∷ a .x01 ∷ a .x10 ∷ a .x11 ∷ [] in
-    let l : n < places 4 m = omega (arith, c19 .places-of .ensures) in
-    let at = c23 .memo-size .ensures .0 in
+    let l : n < places 4 m = omega (arith, after-places-of .places-of .ensures) in
+    let at = after-memo-size .memo-size .ensures .0 in
     record {
-      small = omega (arith, c19 .places-of .ensures);
-      node = λ K y z e. joins-new y x (not-false _ (c19 .before .if2 .left)) z e (c14 .chase .result)
-          (λ good ix. c14 .chase .ensures good at ix) _ _ _ (λ h. omega arith) l (c10 .put .ensures) (of-relation x n _ _ (c6 .note .ensures))
-          (c .before .before .link .ensures _ (at ∙ ap memo-size (sym (c6 .note .kept .0)))
-          (c17 .hash .ensures .0 ∙ bucket-there m _ x n refl l (c10 .put .ensures)));
+      small = omega (arith, after-places-of .places-of .ensures);
+      node = λ K y z e. joins-new y x (not-false _ (after-places-of .before .if2 .left)) z e (after-chase .chase .result)
+          (λ good ix. after-chase .chase .ensures good at ix) _ _ _ (λ h. omega arith) l (after-put .put .ensures)
+          (of-relation x n _ _ (after-note .note .ensures)) (c .before .before .link .ensures _ (at ∙ ap memo-size (sym (after-note .note .kept .0)))
+          (after-hash .hash .ensures .0 ∙ bucket-there m _ x n refl l (after-put .put .ensures)));
     }
 
 pub join-spec : {M : Type 1} → statement M

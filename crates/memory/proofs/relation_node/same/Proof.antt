@@ -24,27 +24,27 @@ module _ (m : List ℕ) (i a b c d : ℕ) (l : 4 * i + 4 ≤ length m) where
 
 returns : tie.Need-returns
 returns c =
-    let s = c .before .before in
-    (λ e. cc, λ _ e. c .if1 .taken (are (s .args .nodes .now) (s .args .i) _ _ _ _ (s .pre) e .0))
+    let entry = c .before .before in
+    (λ e. cc, λ _ e. c .if1 .taken (are (entry .args .nodes .now) (entry .args .i) _ _ _ _ (entry .pre) e .0))
 
 returns-2 : tie.Need-returns-2
 returns-2 c =
-    let s = c .before .before .before .before in
-    (λ e. cc, λ _ e. c .if2 .taken (are (s .args .nodes .now) (s .args .i) _ _ _ _ (s .pre) e .1))
+    let entry = c .before .before .before .before in
+    (λ e. cc, λ _ e. c .if2 .taken (are (entry .args .nodes .now) (entry .args .i) _ _ _ _ (entry .pre) e .1))
 
 returns-3 : tie.Need-returns-3
 returns-3 c =
-    let s = c .before .before .before .before .before .before in
-    (λ e. cc, λ _ e. c .if3 .taken (are (s .args .nodes .now) (s .args .i) _ _ _ _ (s .pre) e .2))
+    let entry = c .before .before .before .before .before .before in
+    (λ e. cc, λ _ e. c .if3 .taken (are (entry .args .nodes .now) (entry .args .i) _ _ _ _ (entry .pre) e .2))
 
 returns-4 : tie.Need-returns-4
 returns-4 c =
-    let c3 = c .before in
-    let c2 = c3 .before .before in
-    let c1 = c2 .before .before in
-    let s = c1 .before .before in (
-      λ t. is (s .args .nodes .now) (s .args .i) _ _ _ _ (s .pre) (c1 .if1 .left, c2 .if2 .left, c3 .if3 .left, eqb-true _ _ t),
-      λ f e. eqb-false _ _ f (are (s .args .nodes .now) (s .args .i) _ _ _ _ (s .pre) e .3),
+    let at-if3 = c .before in
+    let at-if2 = at-if3 .before .before in
+    let at-if1 = at-if2 .before .before in
+    let entry = at-if1 .before .before in (
+      λ t. is (entry .args .nodes .now) (entry .args .i) _ _ _ _ (entry .pre) (at-if1 .if1 .left, at-if2 .if2 .left, at-if3 .if3 .left, eqb-true _ _ t),
+      λ f e. eqb-false _ _ f (are (entry .args .nodes .now) (entry .args .i) _ _ _ _ (entry .pre) e .3),
     )
 
 pub same-spec : {M : Type 1} → statement M

@@ -23,8 +23,8 @@ no-field-requires c κs = omega arith
 
 returns : tie.Need-returns Inv-loop μ-loop
 returns c =
-    let c3 = c .before .before .before in
-    sym (c3 .loop .inv .1 ∙ first-here _ _ _ (c .before .before .loop-test .taken) (sym (c .if1 .taken) ∙ c .before .no-field .ensures))
+    let at-loop = c .before .before .before in
+    sym (at-loop .loop .inv .1 ∙ first-here _ _ _ (c .before .before .loop-test .taken) (sym (c .if1 .taken) ∙ c .before .no-field .ensures))
 
 add-i : tie.Need-add-i Inv-loop μ-loop
 add-i c = omega arith
@@ -34,8 +34,8 @@ loop-less c = omega arith
 
 loop-again : tie.Need-loop-again Inv-loop μ-loop
 loop-again c =
-    let c3 = c .before .before .before in
-    (omega arith, c3 .loop .inv .1 ∙ first-later _ _ _ (c .before .before .loop-test .taken) (sym (c .if1 .left) ∙ c .before .no-field .ensures))
+    let at-loop = c .before .before .before in
+    (omega arith, at-loop .loop .inv .1 ∙ first-later _ _ _ (c .before .before .loop-test .taken) (sym (c .if1 .left) ∙ c .before .no-field .ensures))
 
 returns-2 : tie.Need-returns-2 Inv-loop μ-loop
 returns-2 c = sym (c .before .loop .inv .1 ∙ first-none _ _ _ (omega arith) (c .before .loop .inv .0))

@@ -38,20 +38,20 @@ add-result c = omega (arith, c .value2 .ensures .1, c .before .before .before .b
 
 returns-3 : tie.Need-returns-3
 returns-3 c =
-    let c4 = c .before .before .before .before in
-    let c5 = c4 .before in
-    let c7 = c5 .before .before in
-    let c9 = c7 .before .before in
-    number-two _ _ _ _ (c9 .pre) (c7 .if1 .left) (c4 .if2 .left) (sym (c .before .if3 .taken) ∙ c .before .before .is-digit .ensures)
-    (c5 .value .ensures .0) (c .value2 .ensures .0)
+    let at-if2 = c .before .before .before .before in
+    let after-value = at-if2 .before in
+    let at-if1 = after-value .before .before in
+    let entry = at-if1 .before .before in
+    number-two _ _ _ _ (entry .pre) (at-if1 .if1 .left) (at-if2 .if2 .left) (sym (c .before .if3 .taken) ∙ c .before .before .is-digit .ensures)
+    (after-value .value .ensures .0) (c .value2 .ensures .0)
 
 returns-4 : tie.Need-returns-4
 returns-4 c =
-    let c3 = c .before .before .before in
-    let c4 = c3 .before in
-    let c6 = c4 .before .before in
-    let c8 = c6 .before .before in
-    number-short _ _ _ (c8 .pre) (c6 .if1 .left) (c3 .if2 .left) (sym (c .if3 .left) ∙ c .before .is-digit .ensures) (c4 .value .ensures .0)
+    let at-if2 = c .before .before .before in
+    let after-value = at-if2 .before in
+    let at-if1 = after-value .before .before in
+    let entry = at-if1 .before .before in
+    number-short _ _ _ (entry .pre) (at-if1 .if1 .left) (at-if2 .if2 .left) (sym (c .if3 .left) ∙ c .before .is-digit .ensures) (after-value .value .ensures .0)
 
 pub number-at-spec : {M : Type 1} → statement M
 number-at-spec =

@@ -29,9 +29,9 @@ clean-inside-requires c κs = omega arith
 
 returns : tie.Need-returns Inv-loop μ-loop
 returns c =
-    let c3 = c .before .before .before in
-    let c4 = c3 .before in
-    c .clean-inside .ensures ∙ sym (c4 .loop .inv .2 ∙ clean-paren _ _ (c3 .loop-test .taken) (c .before .if1 .taken))
+    let in-loop = c .before .before .before in
+    let at-loop = in-loop .before in
+    c .clean-inside .ensures ∙ sym (at-loop .loop .inv .2 ∙ clean-paren _ _ (in-loop .loop-test .taken) (c .before .if1 .taken))
 
 add-is-test : tie.Need-add-is-test Inv-loop μ-loop
 add-is-test c = omega arith
@@ -41,15 +41,15 @@ is-test-requires c κs = omega arith
 
 returns-2 : tie.Need-returns-2 Inv-loop μ-loop
 returns-2 c =
-    let c4 = c .before .before .before .before in
-    let c5 = c4 .before in
-    c .is-test .ensures ∙ sym (c5 .loop .inv .2 ∙ clean-name _ _ (c4 .loop-test .taken) (c .before .before .if1 .left) (c .before .if2 .taken))
+    let in-loop = c .before .before .before .before in
+    let at-loop = in-loop .before in
+    c .is-test .ensures ∙ sym (at-loop .loop .inv .2 ∙ clean-name _ _ (in-loop .loop-test .taken) (c .before .before .if1 .left) (c .before .if2 .taken))
 
 returns-3 : tie.Need-returns-3 Inv-loop μ-loop
 returns-3 c =
-    let c4 = c .before .before .before .before in
-    let c5 = c4 .before in
-    sym (c5 .loop .inv .2 ∙ clean-digit _ _ (c4 .loop-test .taken) (c .before .before .if1 .left) (c .before .if2 .left) (c .if3 .taken))
+    let in-loop = c .before .before .before .before in
+    let at-loop = in-loop .before in
+    sym (at-loop .loop .inv .2 ∙ clean-digit _ _ (in-loop .loop-test .taken) (c .before .before .if1 .left) (c .before .if2 .left) (c .if3 .taken))
 
 add-i : tie.Need-add-i Inv-loop μ-loop
 add-i c = omega arith
@@ -59,9 +59,9 @@ loop-less c = omega arith
 
 loop-again : tie.Need-loop-again Inv-loop μ-loop
 loop-again c =
-    let c4 = c .before .before .before .before in
-    let c5 = c4 .before in
-    (omega arith, omega arith, c5 .loop .inv .2 ∙ clean-bang _ _ (c4 .loop-test .taken) (c .if3 .left))
+    let in-loop = c .before .before .before .before in
+    let at-loop = in-loop .before in
+    (omega arith, omega arith, at-loop .loop .inv .2 ∙ clean-bang _ _ (in-loop .loop-test .taken) (c .if3 .left))
 
 returns-4 : tie.Need-returns-4 Inv-loop μ-loop
 returns-4 c = sym (c .before .loop .inv .2 ∙ clean-none _ _ (omega arith) (c .before .loop .inv .1))

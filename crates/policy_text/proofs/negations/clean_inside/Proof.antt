@@ -25,16 +25,17 @@ shared-slice-read-b c = omega arith
 
 returns-2 : tie.Need-returns-2 Inv-loop μ-loop
 returns-2 c =
-    let c3 = c .before .before .before in
-    let c4 = c3 .before in
-    sym (c4 .loop .inv .3 ∙ inside-colon _ _ _ (c4 .loop .inv .1) (c .before .before .if1 .left) (c3 .loop-test .taken) (c .if2 .taken))
+    let in-loop = c .before .before .before in
+    let at-loop = in-loop .before in
+    sym (at-loop .loop .inv .3 ∙ inside-colon _ _ _ (at-loop .loop .inv .1) (c .before .before .if1 .left) (in-loop .loop-test .taken) (c .if2 .taken))
 
 returns-3 : tie.Need-returns-3 Inv-loop μ-loop
 returns-3 c =
-    let c3 = c .before .before .before in
-    let c4 = c3 .before in
-    let c5 = c4 .before in
-    sym (c5 .loop .inv .3 ∙ inside-star _ _ _ (c5 .loop .inv .1) (c3 .if1 .left) (c4 .loop-test .taken) (c .before .if2 .left) (c .if3 .taken))
+    let at-if1 = c .before .before .before in
+    let in-loop = at-if1 .before in
+    let at-loop = in-loop .before in
+    sym (at-loop .loop .inv .3 ∙ inside-star _ _ _ (at-loop .loop .inv .1) (at-if1 .if1 .left) (in-loop .loop-test .taken) (c .before .if2 .left)
+    (c .if3 .taken))
 
 opened-requires : tie.Need-opened-requires Inv-loop μ-loop
 opened-requires c κs = omega arith
@@ -47,14 +48,14 @@ loop-less c = omega arith
 
 loop-again : tie.Need-loop-again Inv-loop μ-loop
 loop-again c =
-    let c4 = c .before .before .before .before in
-    let c5 = c4 .before in
-    let c6 = c5 .before in (
+    let at-if1 = c .before .before .before .before in
+    let in-loop = at-if1 .before in
+    let at-loop = in-loop .before in (
       omega arith,
       omega arith,
       (let h = open-most _ _ _ (c .opened .ensures) in omega arith),
-      c6 .loop .inv .3 ∙ inside-later _ _ _ _
-          (c6 .loop .inv .1) (c4 .if1 .left) (c5 .loop-test .taken) (c .before .before .if2 .left) (c .before .if3 .left) (c .opened .ensures),
+      at-loop .loop .inv .3 ∙ inside-later _ _ _ _
+          (at-loop .loop .inv .1) (at-if1 .if1 .left) (in-loop .loop-test .taken) (c .before .before .if2 .left) (c .before .if3 .left) (c .opened .ensures),
     )
 
 returns-4 : tie.Need-returns-4 Inv-loop μ-loop

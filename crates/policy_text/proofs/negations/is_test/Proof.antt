@@ -22,14 +22,14 @@ shared-slice-read-b c = omega arith
 
 returns : tie.Need-returns Inv-loop μ-loop
 returns c =
-    let c3 = c .before .before .before in
-    sym (c3 .loop .inv .2 ∙ test-colon _ _ (c .before .before .loop-test .taken) (c .if1 .taken))
+    let at-loop = c .before .before .before in
+    sym (at-loop .loop .inv .2 ∙ test-colon _ _ (c .before .before .loop-test .taken) (c .if1 .taken))
 
 returns-2 : tie.Need-returns-2 Inv-loop μ-loop
 returns-2 c =
-    let c3 = c .before .before .before in
-    let c4 = c3 .before in
-    sym (c4 .loop .inv .2 ∙ test-equals _ _ (c3 .loop-test .taken) (c .before .if1 .left) (c .if2 .taken))
+    let in-loop = c .before .before .before in
+    let at-loop = in-loop .before in
+    sym (at-loop .loop .inv .2 ∙ test-equals _ _ (in-loop .loop-test .taken) (c .before .if1 .left) (c .if2 .taken))
 
 add-i : tie.Need-add-i Inv-loop μ-loop
 add-i c = omega arith
@@ -39,9 +39,9 @@ loop-less c = omega arith
 
 loop-again : tie.Need-loop-again Inv-loop μ-loop
 loop-again c =
-    let c3 = c .before .before .before in
-    let c4 = c3 .before in
-    (omega arith, omega arith, c4 .loop .inv .2 ∙ test-later _ _ (c3 .loop-test .taken) (c .before .if1 .left) (c .if2 .left))
+    let in-loop = c .before .before .before in
+    let at-loop = in-loop .before in
+    (omega arith, omega arith, at-loop .loop .inv .2 ∙ test-later _ _ (in-loop .loop-test .taken) (c .before .if1 .left) (c .if2 .left))
 
 returns-3 : tie.Need-returns-3 Inv-loop μ-loop
 returns-3 c = sym (c .before .loop .inv .2 ∙ test-none _ _ (omega arith) (c .before .loop .inv .1))

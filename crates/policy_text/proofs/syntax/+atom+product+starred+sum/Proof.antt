@@ -10,8 +10,9 @@ use Rattle.model.specs.Policies.{Policy}
 use mathlib.Core.List.{[], _∷_}
 use Rattle.policy_text.specs.XForms.{x-begins?, x-forms}
 use Rattle.policy_text.specs.Machine.{inside, spelt, need, final, byte-step, negs}
-use Rattle.policy_text.proofs.Moves.{atom-end, atom-whole, atom-go, atom-stop, atom-bang, atom-over, paren-refused, paren-closed, paren-ends, paren-stops}
-use Rattle.policy_text.proofs.Moves.{step-semi, step-plus, join-stars, join-atom-refused, join-refused, join-stop, or-falses, join-told, atom-told, join-lt}
+use Rattle.policy_text.proofs.Moves.{atom-end, atom-whole, atom-go, atom-stop, atom-bang, atom-over, paren-refused}
+use Rattle.policy_text.proofs.Moves.{paren-closed, paren-ends, paren-stops, step-semi, step-plus, join-stars}
+use Rattle.policy_text.proofs.Moves.{join-atom-refused, join-refused, join-stop, or-falses, join-told, atom-told, join-lt}
 use Rattle.policy_text.proofs.Moves.{join-from, atom-in, Joined, joined-none, joined-from, joined-in, joined-more, joined-last}
 use Prim.Native.Nat.{ℕ, _<_, _+_, _-_, _*_}
 use borrow.Fn.Kinds.{In}
@@ -116,46 +117,49 @@ atom-returns-6 t c = atom-over _ _ _ _ (omega arith) (inl (c .before .if5 .taken
 
 atom-returns-7 : (t : ℕ) → atom-lts.Need-returns-7 (atom-calls t) (atom-at t) atom.Post
 atom-returns-7 t c =
-    let c3 = c .before .before .before in
-    paren-refused _ _ _ _ (omega arith) (c3 .if7 .taken) (c .before .before .if8 .taken) _ (c .match .keys2) (c .before .sum .ensures)
+    let at-if7 = c .before .before .before in
+    paren-refused _ _ _ _ (omega arith) (at-if7 .if7 .taken) (c .before .before .if8 .taken) _ (c .match .keys2) (c .before .sum .ensures)
 
 atom-returns-8 : (t : ℕ) → atom-lts.Need-returns-8 (atom-calls t) (atom-at t) atom.Post
 atom-returns-8 t c =
-    let c4 = c .before .before .before .before in
-    let c5 = c4 .before in
-    let c6 = c5 .before in
-    paren-ends _ _ _ _ (omega arith) (c6 .if7 .taken) (c5 .if8 .taken) _ (join-told _ _ _ _ _ _ _ (c .before .before .inner .given .1) (c4 .sum .ensures))
-    (c .if9 .taken)
+    let after-sum = c .before .before .before .before in
+    let at-if8 = after-sum .before in
+    let at-if7 = at-if8 .before in
+    paren-ends _ _ _ _ (omega arith) (at-if7 .if7 .taken) (at-if8 .if8 .taken) _
+    (join-told _ _ _ _ _ _ _ (c .before .before .inner .given .1) (after-sum .sum .ensures)) (c .if9 .taken)
 
 atom-shared-slice-read-if10 : (t : ℕ) → atom-lts.Need-shared-slice-read-if10 (atom-calls t) (atom-at t) atom.Post
 atom-shared-slice-read-if10 t c =
-    let c3 = c .before .before .before in
-    let c5 = c3 .before .before in
-    join-lt _ _ _ _ _ _ (join-told _ _ _ _ _ _ _ (c3 .inner .given .1) (c5 .sum .ensures)) (c .before .if9 .left)
+    let after-inner = c .before .before .before in
+    let after-sum = after-inner .before .before in
+    join-lt _ _ _ _ _ _ (join-told _ _ _ _ _ _ _ (after-inner .inner .given .1) (after-sum .sum .ensures)) (c .before .if9 .left)
 
 atom-add-t23 : (t : ℕ) → atom-lts.Need-add-t23 (atom-calls t) (atom-at t) atom.Post
 atom-add-t23 t c =
-    let c4 = c .before .before .before .before in
-    let c6 = c4 .before .before in
-    let h = (join-lt _ _ _ _ _ _ (join-told _ _ _ _ _ _ _ (c4 .inner .given .1) (c6 .sum .ensures)) (c .before .before .if9 .left)) in omega arith
+    let after-inner = c .before .before .before .before in
+    let after-sum = after-inner .before .before in
+    let h = (join-lt _ _ _ _ _ _ (join-told _ _ _ _ _ _ _ (after-inner .inner .given .1) (after-sum .sum .ensures)) (c .before .before .if9 .left)) in omega
+    arith
 
 atom-returns-9 : (t : ℕ) → atom-lts.Need-returns-9 (atom-calls t) (atom-at t) atom.Post
 atom-returns-9 t c =
-    let c4 = c .before .before .before .before in
-    let c6 = c4 .before .before in
-    let c7 = c6 .before in
-    let c8 = c7 .before in
-    paren-closed _ _ _ _ (omega arith) (c8 .if7 .taken) (c7 .if8 .taken) _ (join-told _ _ _ _ _ _ _ (c4 .inner .given .1) (c6 .sum .ensures))
-    (join-lt _ _ _ _ _ _ (join-told _ _ _ _ _ _ _ (c4 .inner .given .1) (c6 .sum .ensures)) (c .before .before .if9 .left)) (c .if10 .taken)
+    let after-inner = c .before .before .before .before in
+    let after-sum = after-inner .before .before in
+    let at-if8 = after-sum .before in
+    let at-if7 = at-if8 .before in
+    paren-closed _ _ _ _ (omega arith) (at-if7 .if7 .taken) (at-if8 .if8 .taken) _
+    (join-told _ _ _ _ _ _ _ (after-inner .inner .given .1) (after-sum .sum .ensures))
+    (join-lt _ _ _ _ _ _ (join-told _ _ _ _ _ _ _ (after-inner .inner .given .1) (after-sum .sum .ensures)) (c .before .before .if9 .left)) (c .if10 .taken)
 
 atom-returns-10 : (t : ℕ) → atom-lts.Need-returns-10 (atom-calls t) (atom-at t) atom.Post
 atom-returns-10 t c =
-    let c4 = c .before .before .before .before in
-    let c6 = c4 .before .before in
-    let c7 = c6 .before in
-    let c8 = c7 .before in
-    paren-stops _ _ _ _ (omega arith) (c8 .if7 .taken) (c7 .if8 .taken) _ (join-told _ _ _ _ _ _ _ (c4 .inner .given .1) (c6 .sum .ensures))
-    (join-lt _ _ _ _ _ _ (join-told _ _ _ _ _ _ _ (c4 .inner .given .1) (c6 .sum .ensures)) (c .before .before .if9 .left)) (c .if10 .left)
+    let after-inner = c .before .before .before .before in
+    let after-sum = after-inner .before .before in
+    let at-if8 = after-sum .before in
+    let at-if7 = at-if8 .before in
+    paren-stops _ _ _ _ (omega arith) (at-if7 .if7 .taken) (at-if8 .if8 .taken) _
+    (join-told _ _ _ _ _ _ _ (after-inner .inner .given .1) (after-sum .sum .ensures))
+    (join-lt _ _ _ _ _ _ (join-told _ _ _ _ _ _ _ (after-inner .inner .given .1) (after-sum .sum .ensures)) (c .before .before .if9 .left)) (c .if10 .left)
 
 atom-returns-11 : (t : ℕ) → atom-lts.Need-returns-11 (atom-calls t) (atom-at t) atom.Post
 atom-returns-11 t c = atom-over _ _ _ _ (omega arith) (inr (c .before .if7 .taken)) (c .if8 .left)
@@ -163,11 +167,11 @@ atom-returns-11 t c = atom-over _ _ _ _ (omega arith) (inr (c .before .if7 .take
 atom-returns-12 : (t : ℕ) → atom-lts.Need-returns-12 (atom-calls t) (atom-at t) atom.Post
 unfolding byte-step x-begins?
 atom-returns-12 t c =
-    let c3 = c .before .before .before in
-    let c4 = c3 .before in
+    let at-if3 = c .before .before .before in
+    let at-if2 = at-if3 .before in
     atom-stop _ _ _ _ _ (omega arith) (λ sa pa m σ. simp (
-      ne-eqb _ _ (c4 .if2 .left),
-      ne-eqb _ _ (c3 .if3 .left),
+      ne-eqb _ _ (at-if2 .if2 .left),
+      ne-eqb _ _ (at-if3 .if3 .left),
       ne-eqb _ _ (c .before .before .if4 .left),
       ne-eqb _ _ (c .before .if5 .left),
       ne-eqb _ _
@@ -194,61 +198,63 @@ product-returns t c = joined-last _ _ _ _ _ _ _ (c .before .before .loop .inv) (
 
 product-returns-2 : (t : ℕ) → product-lts.Need-returns-2 (product-calls t) (product-at t) product.Post product-Inv-loop product-μ-loop
 product-returns-2 t c =
-    let c4 = c .before .before .before .before in
-    let c5 = c4 .before in
-    joined-last _ _ _ _ _ _ _ (c5 .loop .inv)
+    let after-starred = c .before .before .before .before in
+    let at-loop = after-starred .before in
+    joined-last _ _ _ _ _ _ _ (at-loop .loop .inv)
     (join-stop _ _ _ _ _ _ _ (λ l q. absurd (omega (arith, c .if1 .taken)))
-    (join-told _ _ _ _ _ _ _ (c .before .before .next .given .1) (c4 .starred .ensures)))
+    (join-told _ _ _ _ _ _ _ (c .before .before .next .given .1) (after-starred .starred .ensures)))
 
 product-shared-slice-read-if2 : (t : ℕ) → product-lts.Need-shared-slice-read-if2 (product-calls t) (product-at t) product.Post product-Inv-loop product-μ-loop
 product-shared-slice-read-if2 t c =
-    let c3 = c .before .before .before in
-    let c5 = c3 .before .before in
-    join-lt _ _ _ _ _ _ (join-told _ _ _ _ _ _ _ (c3 .next .given .1) (c5 .starred .ensures)) (c .before .if1 .left)
+    let after-next = c .before .before .before in
+    let after-starred = after-next .before .before in
+    join-lt _ _ _ _ _ _ (join-told _ _ _ _ _ _ _ (after-next .next .given .1) (after-starred .starred .ensures)) (c .before .if1 .left)
 
 product-returns-3 : (t : ℕ) → product-lts.Need-returns-3 (product-calls t) (product-at t) product.Post product-Inv-loop product-μ-loop
 product-returns-3 t c =
-    let c4 = c .before .before .before .before in
-    let c6 = c4 .before .before in
-    let c7 = c6 .before in
-    joined-last _ _ _ _ _ _ _ (c7 .loop .inv)
-    (join-stop _ _ _ _ _ _ _ (λ l q. or-falses _ _ q (ne-eqb _ _ (c .if2 .taken))) (join-told _ _ _ _ _ _ _ (c4 .next .given .1) (c6 .starred .ensures)))
+    let after-next = c .before .before .before .before in
+    let after-starred = after-next .before .before in
+    let at-loop = after-starred .before in
+    joined-last _ _ _ _ _ _ _ (at-loop .loop .inv)
+    (join-stop _ _ _ _ _ _ _ (λ l q. or-falses _ _ q (ne-eqb _ _ (c .if2 .taken)))
+    (join-told _ _ _ _ _ _ _ (after-next .next .given .1) (after-starred .starred .ensures)))
 
 product-add-from : (t : ℕ) → product-lts.Need-add-from (product-calls t) (product-at t) product.Post product-Inv-loop product-μ-loop
 product-add-from t c =
-    let c4 = c .before .before .before .before in
-    let c6 = c4 .before .before in
-    let h = join-lt _ _ _ _ _ _ (join-told _ _ _ _ _ _ _ (c4 .next .given .1) (c6 .starred .ensures)) (c .before .before .if1 .left) in omega arith
+    let after-next = c .before .before .before .before in
+    let after-starred = after-next .before .before in
+    let h = join-lt _ _ _ _ _ _ (join-told _ _ _ _ _ _ _ (after-next .next .given .1) (after-starred .starred .ensures)) (c .before .before .if1 .left) in omega
+    arith
 
 product-loop-less : (t : ℕ) → product-lts.Need-loop-less (product-calls t) (product-at t) product.Post product-Inv-loop product-μ-loop
 product-loop-less t c =
-    let c4 = c .before .before .before .before in
-    let c6 = c4 .before .before in
-    let h = join-lt _ _ _ _ _ _ (join-told _ _ _ _ _ _ _ (c4 .next .given .1) (c6 .starred .ensures)) (c .before .before .if1 .left) in
-    let k = join-from _ _ _ _ _ _ (join-told _ _ _ _ _ _ _ (c4 .next .given .1) (c6 .starred .ensures)) in
+    let after-next = c .before .before .before .before in
+    let after-starred = after-next .before .before in
+    let h = join-lt _ _ _ _ _ _ (join-told _ _ _ _ _ _ _ (after-next .next .given .1) (after-starred .starred .ensures)) (c .before .before .if1 .left) in
+    let k = join-from _ _ _ _ _ _ (join-told _ _ _ _ _ _ _ (after-next .next .given .1) (after-starred .starred .ensures)) in
     omega arith
 
 product-loop-again : (t : ℕ) → product-lts.Need-loop-again (product-calls t) (product-at t) product.Post product-Inv-loop product-μ-loop
 product-loop-again t c =
-    let c4 = c .before .before .before .before in
-    let c6 = c4 .before .before in
-    let c7 = c6 .before in
-    let read = join-told _ _ _ _ _ _ _ (c4 .next .given .1) (c6 .starred .ensures) in
+    let after-next = c .before .before .before .before in
+    let after-starred = after-next .before .before in
+    let at-loop = after-starred .before in
+    let read = join-told _ _ _ _ _ _ _ (after-next .next .given .1) (after-starred .starred .ensures) in
     joined-more _ _ _ _ _ _ _ (join-lt _ _ _ _ _ _ read (c .before .before .if1 .left)) (λ v sa pa σ. (_, _, step-semi _ v sa pa σ _ (c .if2 .left)))
-    (c7 .loop .inv) read
+    (at-loop .loop .inv) read
 
 starred-returns : (t : ℕ) → starred-lts.Need-returns (starred-calls t) (starred-at t) starred.Post
 starred-returns t c = join-atom-refused _ _ _ _ _ _ (c .match .keys2) (c .before .atom .ensures)
 
 starred-stars-requires : (t : ℕ) → starred-lts.Need-stars-requires (starred-calls t) (starred-at t) starred.Post
 starred-stars-requires t c κs =
-    let c3 = c .before .before .before in
-    atom-in _ _ _ _ _ (atom-told _ _ _ _ _ _ _ (c .before .first .given .1) (c3 .atom .ensures))
+    let after-atom = c .before .before .before in
+    atom-in _ _ _ _ _ (atom-told _ _ _ _ _ _ _ (c .before .first .given .1) (after-atom .atom .ensures))
 
 starred-returns-2 : (t : ℕ) → starred-lts.Need-returns-2 (starred-calls t) (starred-at t) starred.Post
 starred-returns-2 t c =
-    let c4 = c .before .before .before .before in
-    join-stars _ _ _ _ _ _ (atom-told _ _ _ _ _ _ _ (c .before .before .first .given .1) (c4 .atom .ensures)) (c .stars .ensures)
+    let after-atom = c .before .before .before .before in
+    join-stars _ _ _ _ _ _ (atom-told _ _ _ _ _ _ _ (c .before .before .first .given .1) (after-atom .atom .ensures)) (c .stars .ensures)
 
 abbrev sum-Inv-loop : sum-lts.InvT-loop
 sum-Inv-loop text at depth from₀ from = Joined x-forms text depth at from
@@ -270,48 +276,50 @@ sum-returns t c = joined-last _ _ _ _ _ _ _ (c .before .before .loop .inv) (join
 
 sum-returns-2 : (t : ℕ) → sum-lts.Need-returns-2 (sum-calls t) (sum-at t) sum.Post sum-Inv-loop sum-μ-loop
 sum-returns-2 t c =
-    let c4 = c .before .before .before .before in
-    let c5 = c4 .before in
-    joined-last _ _ _ _ _ _ _ (c5 .loop .inv)
+    let after-product = c .before .before .before .before in
+    let at-loop = after-product .before in
+    joined-last _ _ _ _ _ _ _ (at-loop .loop .inv)
     (join-stop _ _ _ _ _ _ _ (λ l q. absurd (omega (arith, c .if1 .taken)))
-    (join-told _ _ _ _ _ _ _ (c .before .before .next .given .1) (c4 .product .ensures)))
+    (join-told _ _ _ _ _ _ _ (c .before .before .next .given .1) (after-product .product .ensures)))
 
 sum-shared-slice-read-if2 : (t : ℕ) → sum-lts.Need-shared-slice-read-if2 (sum-calls t) (sum-at t) sum.Post sum-Inv-loop sum-μ-loop
 sum-shared-slice-read-if2 t c =
-    let c3 = c .before .before .before in
-    let c5 = c3 .before .before in
-    join-lt _ _ _ _ _ _ (join-told _ _ _ _ _ _ _ (c3 .next .given .1) (c5 .product .ensures)) (c .before .if1 .left)
+    let after-next = c .before .before .before in
+    let after-product = after-next .before .before in
+    join-lt _ _ _ _ _ _ (join-told _ _ _ _ _ _ _ (after-next .next .given .1) (after-product .product .ensures)) (c .before .if1 .left)
 
 sum-returns-3 : (t : ℕ) → sum-lts.Need-returns-3 (sum-calls t) (sum-at t) sum.Post sum-Inv-loop sum-μ-loop
 sum-returns-3 t c =
-    let c4 = c .before .before .before .before in
-    let c6 = c4 .before .before in
-    let c7 = c6 .before in
-    joined-last _ _ _ _ _ _ _ (c7 .loop .inv)
-    (join-stop _ _ _ _ _ _ _ (λ l q. or-falses _ _ q (ne-eqb _ _ (c .if2 .taken))) (join-told _ _ _ _ _ _ _ (c4 .next .given .1) (c6 .product .ensures)))
+    let after-next = c .before .before .before .before in
+    let after-product = after-next .before .before in
+    let at-loop = after-product .before in
+    joined-last _ _ _ _ _ _ _ (at-loop .loop .inv)
+    (join-stop _ _ _ _ _ _ _ (λ l q. or-falses _ _ q (ne-eqb _ _ (c .if2 .taken)))
+    (join-told _ _ _ _ _ _ _ (after-next .next .given .1) (after-product .product .ensures)))
 
 sum-add-from : (t : ℕ) → sum-lts.Need-add-from (sum-calls t) (sum-at t) sum.Post sum-Inv-loop sum-μ-loop
 sum-add-from t c =
-    let c4 = c .before .before .before .before in
-    let c6 = c4 .before .before in
-    let h = join-lt _ _ _ _ _ _ (join-told _ _ _ _ _ _ _ (c4 .next .given .1) (c6 .product .ensures)) (c .before .before .if1 .left) in omega arith
+    let after-next = c .before .before .before .before in
+    let after-product = after-next .before .before in
+    let h = join-lt _ _ _ _ _ _ (join-told _ _ _ _ _ _ _ (after-next .next .given .1) (after-product .product .ensures)) (c .before .before .if1 .left) in omega
+    arith
 
 sum-loop-less : (t : ℕ) → sum-lts.Need-loop-less (sum-calls t) (sum-at t) sum.Post sum-Inv-loop sum-μ-loop
 sum-loop-less t c =
-    let c4 = c .before .before .before .before in
-    let c6 = c4 .before .before in
-    let h = join-lt _ _ _ _ _ _ (join-told _ _ _ _ _ _ _ (c4 .next .given .1) (c6 .product .ensures)) (c .before .before .if1 .left) in
-    let k = join-from _ _ _ _ _ _ (join-told _ _ _ _ _ _ _ (c4 .next .given .1) (c6 .product .ensures)) in
+    let after-next = c .before .before .before .before in
+    let after-product = after-next .before .before in
+    let h = join-lt _ _ _ _ _ _ (join-told _ _ _ _ _ _ _ (after-next .next .given .1) (after-product .product .ensures)) (c .before .before .if1 .left) in
+    let k = join-from _ _ _ _ _ _ (join-told _ _ _ _ _ _ _ (after-next .next .given .1) (after-product .product .ensures)) in
     omega arith
 
 sum-loop-again : (t : ℕ) → sum-lts.Need-loop-again (sum-calls t) (sum-at t) sum.Post sum-Inv-loop sum-μ-loop
 sum-loop-again t c =
-    let c4 = c .before .before .before .before in
-    let c6 = c4 .before .before in
-    let c7 = c6 .before in
-    let read = join-told _ _ _ _ _ _ _ (c4 .next .given .1) (c6 .product .ensures) in
+    let after-next = c .before .before .before .before in
+    let after-product = after-next .before .before in
+    let at-loop = after-product .before in
+    let read = join-told _ _ _ _ _ _ _ (after-next .next .given .1) (after-product .product .ensures) in
     joined-more _ _ _ _ _ _ _ (join-lt _ _ _ _ _ _ read (c .before .before .if1 .left)) (λ v sa pa σ. (_, _, step-plus _ v sa pa σ _ (c .if2 .left)))
-    (c7 .loop .inv) read
+    (at-loop .loop .inv) read
 
 pub +atom+product+starred+sum-spec : {M : Type 1} → statement M
 +atom+product+starred+sum-spec = close μ-atom μ-product μ-starred μ-sum (λ t. atom-lts.spec (atom-calls t)

@@ -19,17 +19,17 @@ returns c = whole-refused _ _ _ (c .match .keys2) (c .before .sum .ensures)
 
 returns-2 : tie.Need-returns-2
 returns-2 c =
-    let c4 = c .before .before .before .before in
-    let c6 = c4 .before .before in
-    whole-ends _ _ _ (subst (λ (x : Read). JoinPost x-forms continues-sum (c6 .args .text .now) 0 0 x) (c .before .before .all .given .1) (c4 .sum .ensures))
-    (c .if1 .taken)
+    let after-sum = c .before .before .before .before in
+    let entry = after-sum .before .before in
+    whole-ends _ _ _ (subst (λ (x : Read). JoinPost x-forms continues-sum (entry .args .text .now) 0 0 x) (c .before .before .all .given .1)
+    (after-sum .sum .ensures)) (c .if1 .taken)
 
 returns-3 : tie.Need-returns-3
 returns-3 c =
-    let c4 = c .before .before .before .before in
-    let c6 = c4 .before .before in
-    whole-stops _ _ _ (subst (λ (x : Read). JoinPost x-forms continues-sum (c6 .args .text .now) 0 0 x) (c .before .before .all .given .1) (c4 .sum .ensures))
-    (c .if1 .left)
+    let after-sum = c .before .before .before .before in
+    let entry = after-sum .before .before in
+    whole-stops _ _ _ (subst (λ (x : Read). JoinPost x-forms continues-sum (entry .args .text .now) 0 0 x) (c .before .before .all .given .1)
+    (after-sum .sum .ensures)) (c .if1 .left)
 
 pub check-spec : {M : Type 1} → statement M
 check-spec = tie.close (tie.spec sum-requires enum-known-all returns returns-2 returns-3)

@@ -42,8 +42,8 @@ add-next c = search needs
 returns-3 : tie.Need-returns-3
 unfolding byte-step mid-step mid-go x-begins? final
 returns-3 c =
-    let c7 = c .before .before .before .before .before .before .before in
-    λ d. atom-go _ _ d _ (inside (spelt (120 ∷ getD (c7 .args .text .now) (c7 .args .at) 0 ∷ []))) _ _ (omega arith)
+    let entry = c .before .before .before .before .before .before .before in
+    λ d. atom-go _ _ d _ (inside (spelt (120 ∷ getD (entry .args .text .now) (entry .args .at) 0 ∷ []))) _ _ (omega arith)
     (λ sa pa m σ. simp (sym (c .before .before .is-digit .ensures) ∙ c .before .if3 .taken))
     (atom-end _ _ d _ _ (c .if4 .taken) (λ sa pa m σ. refl))
 
@@ -62,15 +62,15 @@ read-relation-requires-2 c κs = search needs
 returns-4 : tie.Need-returns-4
 unfolding byte-step mid-step mid-go x-begins? RelationPost
 returns-4 c =
-    let c5 = c .before .before .before .before .before in
-    let c6 = c5 .before in
-    let c7 = c6 .before in
-    let c11 = c7 .before .before .before .before in
-    let a = getD (c11 .args .text .now) (c11 .args .at) 0 in
-    let b = getD (c11 .args .text .now) (c11 .args .at + 1) 0 in
-    let h = sym (c6 .is-digit .ensures) ∙ c5 .if3 .taken in
+    let at-if3 = c .before .before .before .before .before in
+    let after-is-digit = at-if3 .before in
+    let at-if2 = after-is-digit .before in
+    let entry = at-if2 .before .before .before .before in
+    let a = getD (entry .args .text .now) (entry .args .at) 0 in
+    let b = getD (entry .args .text .now) (entry .args .at + 1) 0 in
+    let h = sym (after-is-digit .is-digit .ensures) ∙ at-if3 .if3 .taken in
     let k = sym (c .before .before .is-digit2 .ensures) ∙ c .before .if5 .taken in
-    let l = digit-tens a (c7 .if2 .left) h in
+    let l = digit-tens a (at-if2 .if2 .left) h in
     λ d. atom-go _ _ d _ (inside (spelt (120 ∷ a ∷ []))) _ _ (omega arith) (λ sa pa m σ. simp h)
     (atom-go _ _ d _ (inside (spelt (120 ∷ a ∷ b ∷ []))) _ _ (omega arith) (λ sa pa m σ. simp (l, k))
     (c .read-relation2 .ensures _ _ d (two-whole a b l k) (λ _. refl)))
@@ -81,14 +81,14 @@ read-relation-requires-3 c κs = search needs
 returns-5 : tie.Need-returns-5
 unfolding byte-step mid-step mid-go x-begins? RelationPost
 returns-5 c =
-    let c5 = c .before .before .before .before .before in
-    let c6 = c5 .before in
-    let c11 = c6 .before .before .before .before .before in
-    let a = getD (c11 .args .text .now) (c11 .args .at) 0 in
-    let h = sym (c6 .is-digit .ensures) ∙ c5 .if3 .taken in
+    let at-if3 = c .before .before .before .before .before in
+    let after-is-digit = at-if3 .before in
+    let entry = after-is-digit .before .before .before .before .before in
+    let a = getD (entry .args .text .now) (entry .args .at) 0 in
+    let h = sym (after-is-digit .is-digit .ensures) ∙ at-if3 .if3 .taken in
     λ d. atom-go _ _ d _ (inside (spelt (120 ∷ a ∷ []))) _ _ (omega arith) (λ sa pa m σ. simp h)
     (c .read-relation3 .ensures _ _ d (one-whole a h)
-    (λ _. one-closed a (getD (c11 .args .text .now) (c11 .args .at + 1) 0) (sym (c .before .before .is-digit2 .ensures) ∙ c .before .if5 .left)))
+    (λ _. one-closed a (getD (entry .args .text .now) (entry .args .at + 1) 0) (sym (c .before .before .is-digit2 .ensures) ∙ c .before .if5 .left)))
 
 returns-6 : tie.Need-returns-6
 unfolding byte-step mid-step mid-go after-name x-begins? x-whole?

@@ -51,19 +51,19 @@ read-bit-requires-2 c κs = search needs
 returns-4 : tie.Need-returns-4
 unfolding byte-step mid-step mid-go after-name RelationPost
 returns-4 c =
-    let c4 = c .before .before .before .before in
-    let c5 = c4 .before in
+    let at-if3 = c .before .before .before .before in
+    let at-if2 = at-if3 .before in
     λ s n d w f. atom-go _ _ d _ (inside (colon n)) _ _ (omega arith)
-    (λ sa pa m σ. simp (f (omega arith), w, eq-eqb _ _ (c4 .if3 .taken), ne-eqb _ _ (c5 .if2 .left)))
+    (λ sa pa m σ. simp (f (omega arith), w, eq-eqb _ _ (at-if3 .if3 .taken), ne-eqb _ _ (at-if2 .if2 .left)))
     (atom-go _ _ d _ (inside (bit true n)) _ _ (omega arith) (λ sa pa m σ. simp (eq-eqb _ _ (c .before .if5 .taken))) (c .read-bit2 .ensures true n d))
 
 returns-5 : tie.Need-returns-5
 unfolding byte-step mid-step mid-go after-name RelationPost
 returns-5 c =
-    let c3 = c .before .before .before in
-    let c4 = c3 .before in
+    let at-if3 = c .before .before .before in
+    let at-if2 = at-if3 .before in
     λ s n d w f. atom-go _ _ d _ (inside (colon n)) _ _ (omega arith)
-    (λ sa pa m σ. simp (f (omega arith), w, eq-eqb _ _ (c3 .if3 .taken), ne-eqb _ _ (c4 .if2 .left)))
+    (λ sa pa m σ. simp (f (omega arith), w, eq-eqb _ _ (at-if3 .if3 .taken), ne-eqb _ _ (at-if2 .if2 .left)))
     (atom-stop _ _ d _ _ (omega arith) (λ sa pa m σ. simp (ne-eqb _ _ (c .if5 .left))))
 
 returns-6 : tie.Need-returns-6

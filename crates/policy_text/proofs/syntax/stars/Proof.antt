@@ -21,8 +21,8 @@ shared-slice-read-if1 c = omega arith
 
 returns : tie.Need-returns Inv-loop μ-loop
 returns c =
-    let c3 = c .before .before .before in
-    stars-post _ _ _ _ (c3 .loop .inv .0) (c3 .loop .inv .1) (λ g. c .if1 .taken) (c3 .loop .inv .2)
+    let at-loop = c .before .before .before in
+    stars-post _ _ _ _ (at-loop .loop .inv .0) (at-loop .loop .inv .1) (λ g. c .if1 .taken) (at-loop .loop .inv .2)
 
 add-i : tie.Need-add-i Inv-loop μ-loop
 add-i c = omega arith
@@ -32,8 +32,8 @@ loop-less c = omega arith
 
 loop-again : tie.Need-loop-again Inv-loop μ-loop
 loop-again c =
-    let c3 = c .before .before .before in
-    (omega arith, omega arith, stars-more _ _ _ _ (c .before .before .loop-test .taken) (c .if1 .left) (c3 .loop .inv .2))
+    let at-loop = c .before .before .before in
+    (omega arith, omega arith, stars-more _ _ _ _ (c .before .before .loop-test .taken) (c .if1 .left) (at-loop .loop .inv .2))
 
 returns-2 : tie.Need-returns-2 Inv-loop μ-loop
 returns-2 c = stars-post _ _ _ _ (c .before .loop .inv .0) (c .before .loop .inv .1) (λ g. absurd (omega arith)) (c .before .loop .inv .2)

@@ -64,55 +64,61 @@ unfolding diagonal-program
     (λ c κs. search needs)
     (λ c. search needs)
     (λ c j.
-    let c4 = c .before .before .before .before in
-    let c6 = c4 .before .before in
-    let c7 = c6 .before in
-    given (not-false _ (c7 .if1 .left)) (recalled _ _ _ _ (diagonal-memo _ _)
-    (no (by begin (diagonal-is _ _)) (less-says (le-ltb _ 2 (c6 .if2 .left)))) (c4 .recall .ensures) (c .before .before .found .given .1))
+    let after-recall = c .before .before .before .before in
+    let at-if2 = after-recall .before .before in
+    let at-if1 = at-if2 .before in
+    given (not-false _ (at-if1 .if1 .left)) (recalled _ _ _ _ (diagonal-memo _ _)
+    (no (by begin (diagonal-is _ _)) (less-says (le-ltb _ 2 (at-if2 .if2 .left)))) (after-recall .recall .ensures) (c .before .before .found .given .1))
     (c .with-handle2 .ensures))
     (λ c. search needs)
     (λ c. search needs)
     (λ c j.
-    let c5 = c .before .before .before .before .before in
-    let c6 = c5 .before in
-    impossible (not-false _ (c6 .if1 .left))
-    (by (no (by begin (diagonal-is _ _)) (less-says (le-ltb _ 2 (c5 .if2 .left)))) (node1-zero diagonal-op _ _ (c .if3 .taken))))
+    let at-if2 = c .before .before .before .before .before in
+    let at-if1 = at-if2 .before in
+    impossible (not-false _ (at-if1 .if1 .left))
+    (by (no (by begin (diagonal-is _ _)) (less-says (le-ltb _ 2 (at-if2 .if2 .left)))) (node1-zero diagonal-op _ _ (c .if3 .taken))))
     (λ c κs. search needs)
     (λ c. search needs)
     (λ c κs.
-    let c3 = c .before .before .before in
-    let c14 = c3 .before .before .before .before .before .before .before .before .before .before .before in
-    (omega (arith, c14 .pre .0, c3 .if3 .left), tt))
+    let at-if3 = c .before .before .before in
+    let entry = at-if3 .before .before .before .before .before .before .before .before .before .before .before in
+    (omega (arith, entry .pre .0, at-if3 .if3 .left), tt))
     (λ c κs.
-    let c10 = c .before .before .before .before .before .before .before .before .before .before in
-    let c21 = c10 .before .before .before .before .before .before .before .before .before .before .before in
-    (omega (arith, c21 .pre .0, c10 .if3 .left), tt))
+    let at-if3 = c .before .before .before .before .before .before .before .before .before .before in
+    let entry = at-if3 .before .before .before .before .before .before .before .before .before .before .before in
+    (omega (arith, entry .pre .0, at-if3 .if3 .left), tt))
     (λ c κs. search needs)
     (λ c κs. search needs)
     (λ c κs. search needs)
     (λ c.
-    let c7 = c .before .before .before .before .before .before .before in
-    let c14 = c7 .before .before .before .before .before .before .before in
-    let c21 = c14 .before .before .before .before .before .before .before in
-    let c28 = c21 .before .before .before .before .before .before .before in
-    omega (arith, c7 .relations4 .given, c14 .relations3 .given, c21 .relations2 .given, c28 .relations .given))
+    let after-relations4 = c .before .before .before .before .before .before .before in
+    let after-relations3 = after-relations4 .before .before .before .before .before .before .before in
+    let after-relations2 = after-relations3 .before .before .before .before .before .before .before in
+    let after-relations = after-relations2 .before .before .before .before .before .before .before in
+    omega (
+      arith,
+      after-relations4 .relations4 .given,
+      after-relations3 .relations3 .given,
+      after-relations2 .relations2 .given,
+      after-relations .relations .given,
+    ))
     (λ c.
-    let c5 = c .before .before .before .before .before in
-    let c12 = c5 .before .before .before .before .before .before .before in
-    let c19 = c12 .before .before .before .before .before .before .before in
-    let c26 = c19 .before .before .before .before .before .before .before in
-    omega (arith, c .before .work5 .given, c5 .work4 .given, c12 .work3 .given, c19 .work2 .given, c26 .work .given))
+    let after-work4 = c .before .before .before .before .before in
+    let after-work3 = after-work4 .before .before .before .before .before .before .before in
+    let after-work2 = after-work3 .before .before .before .before .before .before .before in
+    let after-work = after-work2 .before .before .before .before .before .before .before in
+    omega (arith, c .before .work5 .given, after-work4 .work4 .given, after-work3 .work3 .given, after-work2 .work2 .given, after-work .work .given))
     (λ c j.
-    let c8 = c .before .before .before .before .before .before .before .before in
-    let c15 = c8 .before .before .before .before .before .before .before in
-    let c22 = c15 .before .before .before .before .before .before .before in
-    let c29 = c22 .before .before .before .before .before .before .before in
-    let c32 = c29 .before .before .before in
-    let c33 = c32 .before in
-    let c38 = c33 .before .before .before .before .before in
-    let c39 = c38 .before in
-    let c44 = c39 .before .before .before .before .before in
-    two-returns 17 _ _ _ (not-false _ (c39 .if1 .left)) (omega (arith, c44 .fits .level .fits)) (diagonal-memo _ _)
-    (no (by begin (diagonal-is _ _)) (less-says (le-ltb _ 2 (c38 .if2 .left)))) (opened _ _ _ _ (c33 .if3 .left) (c32 .get .ensures))
-    (c29 .diagonal .ensures j) (c22 .diagonal2 .ensures j) (performs-on (performs-then (c15 .zero-at-depth .ensures) (c8 .mk .ensures)))
-    (c .before .before .remember .ensures)))
+    let after-mk = c .before .before .before .before .before .before .before .before in
+    let after-zero-at-depth = after-mk .before .before .before .before .before .before .before in
+    let after-diagonal2 = after-zero-at-depth .before .before .before .before .before .before .before in
+    let after-diagonal = after-diagonal2 .before .before .before .before .before .before .before in
+    let after-get = after-diagonal .before .before .before in
+    let at-if3 = after-get .before in
+    let at-if2 = at-if3 .before .before .before .before .before in
+    let at-if1 = at-if2 .before in
+    let entry = at-if1 .before .before .before .before .before in
+    two-returns 17 _ _ _ (not-false _ (at-if1 .if1 .left)) (omega (arith, entry .fits .level .fits)) (diagonal-memo _ _)
+    (no (by begin (diagonal-is _ _)) (less-says (le-ltb _ 2 (at-if2 .if2 .left)))) (opened _ _ _ _ (at-if3 .if3 .left) (after-get .get .ensures))
+    (after-diagonal .diagonal .ensures j) (after-diagonal2 .diagonal2 .ensures j)
+    (performs-on (performs-then (after-zero-at-depth .zero-at-depth .ensures) (after-mk .mk .ensures))) (c .before .before .remember .ensures)))

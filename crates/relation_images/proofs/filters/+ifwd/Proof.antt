@@ -61,41 +61,41 @@ unfolding ifwd-program
     (λ c κs. search needs)
     (λ c. search needs)
     (λ c j.
-    let c4 = c .before .before .before .before in
-    let c6 = c4 .before .before in
-    let c7 = c6 .before in
-    given (not-false _ (c7 .if1 .left)) (recalled _ _ _ _ (ifwd-memo _ _) (no (by begin (ifwd-is _ _)) (less-says (le-ltb _ 2 (c6 .if2 .left))))
-    (c4 .recall .ensures) (c .before .before .found .given .1)) (c .with-handle2 .ensures))
+    let after-recall = c .before .before .before .before in
+    let at-if2 = after-recall .before .before in
+    let at-if1 = at-if2 .before in
+    given (not-false _ (at-if1 .if1 .left)) (recalled _ _ _ _ (ifwd-memo _ _) (no (by begin (ifwd-is _ _)) (less-says (le-ltb _ 2 (at-if2 .if2 .left))))
+    (after-recall .recall .ensures) (c .before .before .found .given .1)) (c .with-handle2 .ensures))
     (λ c. search needs)
     (λ c. search needs)
     (λ c j.
-    let c5 = c .before .before .before .before .before in
-    let c6 = c5 .before in
-    impossible (not-false _ (c6 .if1 .left))
-    (by (no (by begin (ifwd-is _ _)) (less-says (le-ltb _ 2 (c5 .if2 .left)))) (node1-zero ifwd-op _ _ (c .if3 .taken))))
+    let at-if2 = c .before .before .before .before .before in
+    let at-if1 = at-if2 .before in
+    impossible (not-false _ (at-if1 .if1 .left))
+    (by (no (by begin (ifwd-is _ _)) (less-says (le-ltb _ 2 (at-if2 .if2 .left)))) (node1-zero ifwd-op _ _ (c .if3 .taken))))
     (λ c κs. search needs)
     (λ c. search needs)
     (λ c κs.
-    let c3 = c .before .before .before in
-    let c14 = c3 .before .before .before .before .before .before .before .before .before .before .before in
-    (omega (arith, c14 .pre .0, c3 .if3 .left), tt))
+    let at-if3 = c .before .before .before in
+    let entry = at-if3 .before .before .before .before .before .before .before .before .before .before .before in
+    (omega (arith, entry .pre .0, at-if3 .if3 .left), tt))
     (λ c κs.
-    let c10 = c .before .before .before .before .before .before .before .before .before .before in
-    let c21 = c10 .before .before .before .before .before .before .before .before .before .before .before in
-    (omega (arith, c21 .pre .0, c10 .if3 .left), tt))
+    let at-if3 = c .before .before .before .before .before .before .before .before .before .before in
+    let entry = at-if3 .before .before .before .before .before .before .before .before .before .before .before in
+    (omega (arith, entry .pre .0, at-if3 .if3 .left), tt))
     (λ c κs. search needs)
     (λ c κs. search needs)
     (λ c. search needs)
     (λ c. search needs)
     (λ c j.
-    let c8 = c .before .before .before .before .before .before .before .before in
-    let c15 = c8 .before .before .before .before .before .before .before in
-    let c22 = c15 .before .before .before .before .before .before .before in
-    let c25 = c22 .before .before .before in
-    let c26 = c25 .before in
-    let c31 = c26 .before .before .before .before .before in
-    let c32 = c31 .before in
-    let c37 = c32 .before .before .before .before .before in
-    two-returns 16 _ _ _ (not-false _ (c32 .if1 .left)) (omega (arith, c37 .fits .level .fits)) (ifwd-memo _ _)
-    (no (by begin (ifwd-is _ _)) (less-says (le-ltb _ 2 (c31 .if2 .left)))) (opened _ _ _ _ (c26 .if3 .left) (c25 .get .ensures))
-    (c22 .ifwd .ensures j) (c15 .ifwd2 .ensures j) (performs-on (c8 .mk .ensures)) (c .before .before .remember .ensures)))
+    let after-mk = c .before .before .before .before .before .before .before .before in
+    let after-ifwd2 = after-mk .before .before .before .before .before .before .before in
+    let after-ifwd = after-ifwd2 .before .before .before .before .before .before .before in
+    let after-get = after-ifwd .before .before .before in
+    let at-if3 = after-get .before in
+    let at-if2 = at-if3 .before .before .before .before .before in
+    let at-if1 = at-if2 .before in
+    let entry = at-if1 .before .before .before .before .before in
+    two-returns 16 _ _ _ (not-false _ (at-if1 .if1 .left)) (omega (arith, entry .fits .level .fits)) (ifwd-memo _ _)
+    (no (by begin (ifwd-is _ _)) (less-says (le-ltb _ 2 (at-if2 .if2 .left)))) (opened _ _ _ _ (at-if3 .if3 .left) (after-get .get .ensures))
+    (after-ifwd .ifwd .ensures j) (after-ifwd2 .ifwd2 .ensures j) (performs-on (after-mk .mk .ensures)) (c .before .before .remember .ensures)))

@@ -15,6 +15,6 @@ ibwd-spec =
     (λ c. search needs)
     (λ c. search needs)
     (λ c j.
-    let c4 = c .before .before .before .before in
-    let c11 = c4 .before .before .before .before .before .before .before in
-    performs-then (c11 .ifwd .ensures j) (performs-on (c4 .flip .ensures))))
+    let after-flip = c .before .before .before .before in
+    let after-ifwd = after-flip .before .before .before .before .before .before .before in
+    performs-then (after-ifwd .ifwd .ensures j) (performs-on (after-flip .flip .ensures))))

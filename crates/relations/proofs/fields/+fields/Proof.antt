@@ -24,7 +24,16 @@ abbrev fields-below : ℕ → In 2 fields-kinds.ps
 fields-below t = and 2 fields-kinds.ps (falls 2 fields-kinds.ps _<_ μ-fields t) fields.Pre
 
 abbrev calls : ℕ → fields-lts.Claims
-calls t = (with-handle-reads.Asked, with-handle-reads.Learnt, field-reads.Asked, field-reads.Learnt, mk-reads.Asked, mk-reads.Learnt, fields-below t, fields.Post)
+calls t = (
+  with-handle-reads.Asked,
+  with-handle-reads.Learnt,
+  field-reads.Asked,
+  field-reads.Learnt,
+  mk-reads.Asked,
+  mk-reads.Learnt,
+  fields-below t,
+  fields.Post,
+)
 
 pub +fields-spec : {M : Type 1} → statement M
 +fields-spec = close μ-fields
@@ -38,8 +47,9 @@ pub +fields-spec : {M : Type 1} → statement M
     (λ c. search needs)
     (λ c. search needs)
     (λ c.
-    let c4 = c .before .before .before .before in
-    let c11 = c4 .before .before .before .before .before .before .before in
-    let c18 = c11 .before .before .before .before .before .before .before in
-    let c21 = c18 .before .before .before in
-    performs-by (fields-step _ _ _ _ _ (c21 .if1 .left)) (performs-then (c18 .field .ensures) (performs-then (c11 .mk .ensures) (c4 .fields .ensures)))))
+    let after-fields = c .before .before .before .before in
+    let after-mk = after-fields .before .before .before .before .before .before .before in
+    let after-field = after-mk .before .before .before .before .before .before .before in
+    let at-if1 = after-field .before .before .before in
+    performs-by (fields-step _ _ _ _ _ (at-if1 .if1 .left)) (performs-then (after-field .field .ensures)
+    (performs-then (after-mk .mk .ensures) (after-fields .fields .ensures)))))

@@ -20,24 +20,25 @@ kept-spec =
     (λ c κs. search needs)
     (λ c. search needs)
     (λ c.
-    let c4 = c .before .before .before .before in
-    let c6 = c4 .before .before in
-    let c7 = c6 .before in
-    let c8 = c7 .before in
-    let c12 = c8 .before .before .before .before in
-    given (not-false _ (c8 .if1 .left)) (recalled _ _ _ _ (fields-memo (c12 .args .assigns) _ _ _ _ _ (c7 .memo-number .ensures .0) (c6 .bit .ensures)) begin
-    (c4 .recall .ensures) (c .before .before .found .given .1)) (c .with-handle .ensures))
+    let after-recall = c .before .before .before .before in
+    let after-bit = after-recall .before .before in
+    let after-memo-number = after-bit .before in
+    let at-if1 = after-memo-number .before in
+    let entry = at-if1 .before .before .before .before in
+    given (not-false _ (at-if1 .if1 .left)) (recalled _ _ _ _
+    (fields-memo (entry .args .assigns) _ _ _ _ _ (after-memo-number .memo-number .ensures .0) (after-bit .bit .ensures)) begin
+    (after-recall .recall .ensures) (c .before .before .found .given .1)) (c .with-handle .ensures))
     (λ c. search needs)
     (λ c κs. search needs)
     (λ c κs. search needs)
     (λ c. search needs)
     (λ c. search needs)
     (λ c.
-    let c8 = c .before .before .before .before .before .before .before .before in
-    let c15 = c8 .before .before .before .before .before .before .before in
-    let c16 = c15 .before in
-    let c17 = c16 .before in
-    let c21 = c17 .before .before .before .before in
-    called-kept _ _ _ _ (not-false _ (c17 .if1 .left)) (omega (arith, c21 .fits .k .fits))
-    (fields-memo (c21 .args .assigns) _ _ _ _ _ (c16 .memo-number .ensures .0) (c15 .bit .ensures)) begin (c8 .fields .ensures)
+    let after-fields = c .before .before .before .before .before .before .before .before in
+    let after-bit = after-fields .before .before .before .before .before .before .before in
+    let after-memo-number = after-bit .before in
+    let at-if1 = after-memo-number .before in
+    let entry = at-if1 .before .before .before .before in
+    called-kept _ _ _ _ (not-false _ (at-if1 .if1 .left)) (omega (arith, entry .fits .k .fits))
+    (fields-memo (entry .args .assigns) _ _ _ _ _ (after-memo-number .memo-number .ensures .0) (after-bit .bit .ensures)) begin (after-fields .fields .ensures)
     (c .before .before .remember .ensures)))

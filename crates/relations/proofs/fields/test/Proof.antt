@@ -13,5 +13,5 @@ test-spec =
     (λ c. search needs)
     (λ c. search needs)
     (λ c.
-    let c4 = c .before .before .before .before in
-    c4 .kept .ensures))
+    let after-kept = c .before .before .before .before in
+    after-kept .kept .ensures))

@@ -15,23 +15,23 @@ difference-tests-spec =
     (λ c. shortcut-answer (yes begin (empty-says (c .before .relation-properties .ensures) (c .if1 .taken))))
     (λ c κs. search needs)
     (λ c.
-    let c3 = c .before .before .before in
-    shortcut-answer (yes (no begin (empty-says (c3 .relation-properties .ensures) (c .before .before .if1 .left)))
+    let after-relation-properties = c .before .before .before in
+    shortcut-answer (yes (no begin (empty-says (after-relation-properties .relation-properties .ensures) (c .before .before .if1 .left)))
     (empty-says (c .before .relation-properties2 .ensures) (c .if2 .taken))))
     (λ c.
-    let c3 = c .before .before .before in
-    let c4 = c3 .before in
-    shortcut-delegate (yes (no (no begin (empty-says (c4 .relation-properties .ensures) (c3 .if1 .left)))
+    let at-if1 = c .before .before .before in
+    let after-relation-properties = at-if1 .before in
+    shortcut-delegate (yes (no (no begin (empty-says (after-relation-properties .relation-properties .ensures) (at-if1 .if1 .left)))
     (empty-says (c .before .before .relation-properties2 .ensures) (c .before .if2 .left)))
-    (universal-says (c4 .relation-properties .ensures) (c .if3 .taken))))
+    (universal-says (after-relation-properties .relation-properties .ensures) (c .if3 .taken))))
     (λ c κs. search needs)
     (λ c κs. search needs)
     (λ c.
-    let c3 = c .before .before .before in
-    let c4 = c3 .before in
-    let c5 = c4 .before in
-    let c6 = c5 .before in
-    shortcut-lookup (no (no (no begin (empty-says (c6 .relation-properties .ensures) (c5 .if1 .left)))
-    (empty-says (c4 .relation-properties2 .ensures) (c3 .if2 .left)))
-    (universal-says (c6 .relation-properties .ensures) (c .before .before .if3 .left)))
+    let at-if2 = c .before .before .before in
+    let after-relation-properties2 = at-if2 .before in
+    let at-if1 = after-relation-properties2 .before in
+    let after-relation-properties = at-if1 .before in
+    shortcut-lookup (no (no (no begin (empty-says (after-relation-properties .relation-properties .ensures) (at-if1 .if1 .left)))
+    (empty-says (after-relation-properties2 .relation-properties2 .ensures) (at-if2 .if2 .left)))
+    (universal-says (after-relation-properties .relation-properties .ensures) (c .before .before .if3 .left)))
     (answer-recalled _ _ _ _ (difference-memo _ _ _) begin (c .before .recall .ensures)) (c .shortcut-of .ensures)))

@@ -16,6 +16,6 @@ lattice-tests-spec =
     (universal-says A (c .if3 .taken))))
     (λ c κs. search needs)
     (λ c node m e A B.
-    let c3 = c .before .before .before in
-    answers-later (no (no (no begin (universal-says B (c3 .if1 .left))) (empty-says B (c .before .before .if2 .left)))
+    let at-if1 = c .before .before .before in
+    answers-later (no (no (no begin (universal-says B (at-if1 .if1 .left))) (empty-says B (c .before .before .if2 .left)))
     (universal-says A (c .before .if3 .left))) (c .ordered .ensures node _ e)))

@@ -14,31 +14,33 @@ xor-tests-spec =
     (λ c. shortcut-answer (yes begin (empty-says (c .before .relation-properties .ensures) (c .if1 .taken))))
     (λ c κs. search needs)
     (λ c.
-    let c3 = c .before .before .before in
-    shortcut-answer (yes (no begin (empty-says (c3 .relation-properties .ensures) (c .before .before .if1 .left)))
+    let after-relation-properties = c .before .before .before in
+    shortcut-answer (yes (no begin (empty-says (after-relation-properties .relation-properties .ensures) (c .before .before .if1 .left)))
     (empty-says (c .before .relation-properties2 .ensures) (c .if2 .taken))))
     (λ c.
-    let c3 = c .before .before .before in
-    let c4 = c3 .before in
-    shortcut-delegate (yes (no (no begin (empty-says (c4 .relation-properties .ensures) (c3 .if1 .left)))
+    let at-if1 = c .before .before .before in
+    let after-relation-properties = at-if1 .before in
+    shortcut-delegate (yes (no (no begin (empty-says (after-relation-properties .relation-properties .ensures) (at-if1 .if1 .left)))
     (empty-says (c .before .before .relation-properties2 .ensures) (c .before .if2 .left)))
-    (universal-says (c4 .relation-properties .ensures) (c .if3 .taken))))
+    (universal-says (after-relation-properties .relation-properties .ensures) (c .if3 .taken))))
     (λ c.
-    let c3 = c .before .before .before in
-    let c4 = c3 .before in
-    let c5 = c4 .before in
-    shortcut-delegate (yes (no (no (no begin (empty-says (c5 .relation-properties .ensures) (c4 .if1 .left)))
-    (empty-says (c3 .relation-properties2 .ensures) (c .before .before .if2 .left)))
-    (universal-says (c5 .relation-properties .ensures) (c .before .if3 .left))) (universal-says (c3 .relation-properties2 .ensures) (c .if4 .taken))))
+    let after-relation-properties2 = c .before .before .before in
+    let at-if1 = after-relation-properties2 .before in
+    let after-relation-properties = at-if1 .before in
+    shortcut-delegate (yes (no (no (no begin (empty-says (after-relation-properties .relation-properties .ensures) (at-if1 .if1 .left)))
+    (empty-says (after-relation-properties2 .relation-properties2 .ensures) (c .before .before .if2 .left)))
+    (universal-says (after-relation-properties .relation-properties .ensures) (c .before .if3 .left)))
+    (universal-says (after-relation-properties2 .relation-properties2 .ensures) (c .if4 .taken))))
     (λ c κs. search needs)
     (λ c κs. search needs)
     (λ c.
-    let c3 = c .before .before .before in
-    let c4 = c3 .before in
-    let c5 = c4 .before in
-    let c6 = c5 .before in
-    let c7 = c6 .before in
-    shortcut-lookup (no (no (no (no begin (empty-says (c7 .relation-properties .ensures) (c6 .if1 .left)))
-    (empty-says (c5 .relation-properties2 .ensures) (c4 .if2 .left))) (universal-says (c7 .relation-properties .ensures) (c3 .if3 .left)))
-    (universal-says (c5 .relation-properties2 .ensures) (c .before .before .if4 .left))) (c .before .ordered .ensures _ _ (xor-memo _))
+    let at-if3 = c .before .before .before in
+    let at-if2 = at-if3 .before in
+    let after-relation-properties2 = at-if2 .before in
+    let at-if1 = after-relation-properties2 .before in
+    let after-relation-properties = at-if1 .before in
+    shortcut-lookup (no (no (no (no begin (empty-says (after-relation-properties .relation-properties .ensures) (at-if1 .if1 .left)))
+    (empty-says (after-relation-properties2 .relation-properties2 .ensures) (at-if2 .if2 .left)))
+    (universal-says (after-relation-properties .relation-properties .ensures) (at-if3 .if3 .left)))
+    (universal-says (after-relation-properties2 .relation-properties2 .ensures) (c .before .before .if4 .left))) (c .before .ordered .ensures _ _ (xor-memo _))
     (c .shortcut-of .ensures)))

@@ -56,11 +56,11 @@ pub +ifelse-spec : {M : Type 1} → statement M
     (λ c κs. search needs)
     (λ c. search needs)
     (λ c.
-    let c4 = c .before .before .before .before in
-    let c7 = c4 .before .before .before in
-    let c11 = c7 .before .before .before .before in
-    given (not-false _ (c7 .if1 .left)) (recalled _ _ _ _ (ifelse-memo _ _ _ _ (omega (arith, c11 .fits .var .fits))) begin (c4 .recall .ensures)
-    (c .before .before .found .given .1)) (c .with-handle .ensures))
+    let after-recall = c .before .before .before .before in
+    let at-if1 = after-recall .before .before .before in
+    let entry = at-if1 .before .before .before .before in
+    given (not-false _ (at-if1 .if1 .left)) (recalled _ _ _ _ (ifelse-memo _ _ _ _ (omega (arith, entry .fits .var .fits))) begin
+    (after-recall .recall .ensures) (c .before .before .found .given .1)) (c .with-handle .ensures))
     (λ c. search needs)
     (λ c κs. search needs)
     (λ c κs. search needs)
@@ -69,46 +69,47 @@ pub +ifelse-spec : {M : Type 1} → statement M
     (λ c. search needs)
     (λ c. search needs)
     (λ c.
-    let c8 = c .before .before .before .before .before .before .before .before in
-    let c11 = c8 .before .before .before in
-    let c12 = c11 .before in
-    let c14 = c12 .before .before in
-    let c20 = c14 .before .before .before .before .before .before in
-    let c21 = c20 .before in
-    let c25 = c21 .before .before .before .before in
-    here-returns _ _ _ _ (omega (arith, c25 .fits .level .fits)) (omega (arith, c25 .fits .var .fits)) (not-false _ (c21 .if1 .left)) (c20 .if2 .left)
-    (c11 .if3 .taken) (c14 .get .ensures) (c12 .get2 .ensures) (c8 .mk .ensures) (c .before .before .remember .ensures))
+    let after-mk = c .before .before .before .before .before .before .before .before in
+    let at-if3 = after-mk .before .before .before in
+    let after-get2 = at-if3 .before in
+    let after-get = after-get2 .before .before in
+    let at-if2 = after-get .before .before .before .before .before .before in
+    let at-if1 = at-if2 .before in
+    let entry = at-if1 .before .before .before .before in
+    here-returns _ _ _ _ (omega (arith, entry .fits .level .fits)) (omega (arith, entry .fits .var .fits)) (not-false _ (at-if1 .if1 .left)) (at-if2 .if2 .left)
+    (at-if3 .if3 .taken) (after-get .get .ensures) (after-get2 .get2 .ensures) (after-mk .mk .ensures) (c .before .before .remember .ensures))
     (λ c. search needs)
     (λ c. search needs)
     (λ c κs.
-    let c11 = c .before .before .before .before .before .before .before .before .before .before .before in
-    let c16 = c11 .before .before .before .before .before in
-    (omega (arith, c16 .pre .0, c11 .if2 .left), tt))
+    let at-if2 = c .before .before .before .before .before .before .before .before .before .before .before in
+    let entry = at-if2 .before .before .before .before .before in
+    (omega (arith, entry .pre .0, at-if2 .if2 .left), tt))
     (λ c. search needs)
     (λ c. search needs)
     (λ c κs.
-    let c9 = c .before .before .before .before .before .before .before .before .before in
-    let c18 = c9 .before .before .before .before .before .before .before .before .before in
-    let c23 = c18 .before .before .before .before .before in
-    (omega (arith, c23 .pre .0, c18 .if2 .left), tt))
+    let at-if3 = c .before .before .before .before .before .before .before .before .before in
+    let at-if2 = at-if3 .before .before .before .before .before .before .before .before .before in
+    let entry = at-if2 .before .before .before .before .before in
+    (omega (arith, entry .pre .0, at-if2 .if2 .left), tt))
     (λ c κs. search needs)
     (λ c κs.
-    let c12 = c .before .before .before .before .before .before .before .before .before .before .before .before in
-    let c24 = c12 .before .before .before .before .before .before .before .before .before .before .before .before in
-    let c36 = c24 .before .before .before .before .before .before .before .before .before .before .before .before in
-    omega (arith, c36 .fits .var .fits))
+    let after-ifelse2 = c .before .before .before .before .before .before .before .before .before .before .before .before in
+    let after-get-arg2 = after-ifelse2 .before .before .before .before .before .before .before .before .before .before .before .before in
+    let entry = after-get-arg2 .before .before .before .before .before .before .before .before .before .before .before .before in
+    omega (arith, entry .fits .var .fits))
     (λ c. search needs)
     (λ c. search needs)
     (λ c.
-    let c8 = c .before .before .before .before .before .before .before .before in
-    let c15 = c8 .before .before .before .before .before .before .before in
-    let c22 = c15 .before .before .before .before .before .before .before in
-    let c25 = c22 .before .before .before in
-    let c26 = c25 .before in
-    let c28 = c26 .before .before in
-    let c34 = c28 .before .before .before .before .before .before in
-    let c35 = c34 .before in
-    let c39 = c35 .before .before .before .before in
-    below-returns _ _ _ _ (omega (arith, c39 .fits .level .fits)) (omega (arith, c39 .fits .var .fits)) (not-false _ (c35 .if1 .left)) (c34 .if2 .left)
-    (c25 .if3 .left) (c28 .get .ensures) (c26 .get2 .ensures) (c22 .ifelse .ensures) (c15 .ifelse2 .ensures) (c8 .mk2 .ensures)
-    (c .before .before .remember2 .ensures)))
+    let after-mk2 = c .before .before .before .before .before .before .before .before in
+    let after-ifelse2 = after-mk2 .before .before .before .before .before .before .before in
+    let after-ifelse = after-ifelse2 .before .before .before .before .before .before .before in
+    let at-if3 = after-ifelse .before .before .before in
+    let after-get2 = at-if3 .before in
+    let after-get = after-get2 .before .before in
+    let at-if2 = after-get .before .before .before .before .before .before in
+    let at-if1 = at-if2 .before in
+    let entry = at-if1 .before .before .before .before in
+    below-returns _ _ _ _ (omega (arith, entry .fits .level .fits)) (omega (arith, entry .fits .var .fits)) (not-false _ (at-if1 .if1 .left))
+    (at-if2 .if2 .left)
+    (at-if3 .if3 .left) (after-get .get .ensures) (after-get2 .get2 .ensures) (after-ifelse .ifelse .ensures) (after-ifelse2 .ifelse2 .ensures)
+    (after-mk2 .mk2 .ensures) (c .before .before .remember2 .ensures)))

@@ -35,7 +35,7 @@ pub +raise-spec : {M : Type 1} → statement M
     (λ c. search needs)
     (λ c. search needs)
     (λ c.
-    let c4 = c .before .before .before .before in
-    let c11 = c4 .before .before .before .before .before .before .before in
-    let c14 = c11 .before .before .before in
-    performs-by (raise-step _ _ (c14 .if1 .left)) (performs-then (c11 .mk .ensures) (c4 .raise .ensures))))
+    let after-raise = c .before .before .before .before in
+    let after-mk = after-raise .before .before .before .before .before .before .before in
+    let at-if1 = after-mk .before .before .before in
+    performs-by (raise-step _ _ (at-if1 .if1 .left)) (performs-then (after-mk .mk .ensures) (after-raise .raise .ensures))))

@@ -19,22 +19,22 @@ test-spec =
     (λ c. search needs)
     (λ c. search needs)
     (λ c.
-    let c6 = c .before .before .before .before .before .before in
-    let c13 = c6 .before .before .before .before .before .before .before in
-    let c14 = c13 .before in
-    let c21 = c14 .before .before .before .before .before .before .before in
-    let c22 = c21 .before in
-    test-returns _ _ _ true (c22 .fields-after .ensures) (c21 .zero-at-depth .ensures) (c14 .other .ensures) (c13 .mk .ensures) (c6 .raise .ensures)
-    (c .before .if1 .taken) refl (c .with-handle .ensures))
+    let after-raise = c .before .before .before .before .before .before in
+    let after-mk = after-raise .before .before .before .before .before .before .before in
+    let after-other = after-mk .before in
+    let after-zero-at-depth = after-other .before .before .before .before .before .before .before in
+    let after-fields-after = after-zero-at-depth .before in
+    test-returns _ _ _ true (after-fields-after .fields-after .ensures) (after-zero-at-depth .zero-at-depth .ensures) (after-other .other .ensures)
+    (after-mk .mk .ensures) (after-raise .raise .ensures) (c .before .if1 .taken) refl (c .with-handle .ensures))
     (λ c κs. search needs)
     (λ c κs. search needs)
     (λ c. search needs)
     (λ c. search needs)
     (λ c.
-    let c7 = c .before .before .before .before .before .before .before in
-    let c14 = c7 .before .before .before .before .before .before .before in
-    let c15 = c14 .before in
-    let c22 = c15 .before .before .before .before .before .before .before in
-    let c23 = c22 .before in
-    test-returns _ _ _ false (c23 .fields-after .ensures) (c22 .zero-at-depth .ensures) (c15 .other .ensures) (c14 .mk .ensures) (c7 .raise .ensures)
-    (c .before .before .if1 .left) (c .before .other2 .ensures) (c .with-handle2 .ensures)))
+    let after-raise = c .before .before .before .before .before .before .before in
+    let after-mk = after-raise .before .before .before .before .before .before .before in
+    let after-other = after-mk .before in
+    let after-zero-at-depth = after-other .before .before .before .before .before .before .before in
+    let after-fields-after = after-zero-at-depth .before in
+    test-returns _ _ _ false (after-fields-after .fields-after .ensures) (after-zero-at-depth .zero-at-depth .ensures) (after-other .other .ensures)
+    (after-mk .mk .ensures) (after-raise .raise .ensures) (c .before .before .if1 .left) (c .before .other2 .ensures) (c .with-handle2 .ensures)))

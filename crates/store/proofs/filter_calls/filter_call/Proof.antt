@@ -11,21 +11,24 @@ use Rattle.store.proofs.filter_calls.filter_call.Tie as tie
 
 returns : tie.Need-returns
 returns c =
-    let c4 = c .before .before .before .before in
-    let c7 = c4 .before .before .before in
-    let t = c7 .is-store .ensures in
-    (adding-no-store (filter-adding _) t (not-true _ (c4 .if1 .taken)), c .before .before .clear .ensures ∙ ap (λ n. replicate n 0) (t .work-length))
+    let at-if1 = c .before .before .before .before in
+    let after-is-store = at-if1 .before .before .before in
+    let t = after-is-store .is-store .ensures in
+    (adding-no-store (filter-adding _) t (not-true _ (at-if1 .if1 .taken)), c .before .before .clear .ensures ∙ ap (λ n. replicate n 0) (t .work-length))
 
 run-checked-requires : tie.Need-run-checked-requires
 run-checked-requires c κs =
-    let c5 = c .before .before .before .before .before in
-    checked-ready (c5 .is-store .ensures) (not-false _ (c .before .before .if1 .left))
+    let after-is-store = c .before .before .before .before .before in
+    checked-ready (after-is-store .is-store .ensures) (not-false _ (c .before .before .if1 .left))
 
 returns-2 : tie.Need-returns-2
 returns-2 c =
-    let c8 = c .before .before .before .before .before .before .before .before in
-    let c14 = c8 .before .before .before .before .before .before in
-    (c8 .run-checked .ensures, c .before .before .clear2 .ensures ∙ ap (λ n. replicate n 0) (c8 .run-checked .kept .1 .1 .0 ∙ c14 .is-store .ensures .work-length))
+    let after-run-checked = c .before .before .before .before .before .before .before .before in
+    let after-is-store = after-run-checked .before .before .before .before .before .before in (
+      after-run-checked .run-checked .ensures,
+      c .before .before .clear2 .ensures ∙ ap (λ n. replicate n 0)
+          (after-run-checked .run-checked .kept .1 .1 .0 ∙ after-is-store .is-store .ensures .work-length),
+    )
 
 pub filter-call-spec : {M : Type 1} → statement M
 filter-call-spec =

@@ -21,15 +21,15 @@ of-call {Q} {m} {w} {n} l {r} e A = subst (λ c. AnsweredOn Q set m w n (λ S. P
 
 returns : tie.Need-returns
 returns c j =
-    let c3 = c .before .before .before in
-    let c6 = c3 .before .before .before in
-    of-call _ (c6 .call .given .1) (reads-truth (has-image-read-only _ _ _) (λ S s. s) (λ S. refl) (c3 .has-image .ensures j))
+    let after-has-image = c .before .before .before in
+    let after-call = after-has-image .before .before .before in
+    of-call _ (after-call .call .given .1) (reads-truth (has-image-read-only _ _ _) (λ S s. s) (λ S. refl) (after-has-image .has-image .ensures j))
 
 returns-2 : tie.Need-returns-2
 returns-2 c j =
-    let c3 = c .before .before .before in
-    let c6 = c3 .before .before .before in
-    of-call _ (c6 .call2 .given .1) (reads-truth (has-path-read-only _ _ _ _) (λ S s. s) (λ S. refl) (c3 .has-path .ensures j))
+    let after-has-path = c .before .before .before in
+    let after-call2 = after-has-path .before .before .before in
+    of-call _ (after-call2 .call2 .given .1) (reads-truth (has-path-read-only _ _ _ _) (λ S s. s) (λ S. refl) (after-has-path .has-path .ensures j))
 
 pub answer-spec : {M : Type 1} → statement M
 answer-spec =

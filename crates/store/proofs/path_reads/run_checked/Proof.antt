@@ -20,80 +20,83 @@ shared-slice-read-as-index-2 c = let h = c .before .before .before .before .befo
 
 sub-check : tie.Need-sub-check
 sub-check c =
-    let c8 = c .before .before .before .before .before .before .before .before in
-    let h = c8 .pre .store .room rel .headed in omega arith
+    let entry = c .before .before .before .before .before .before .before .before in
+    let h = entry .pre .store .room rel .headed in omega arith
 
 part-check-start : tie.Need-part-check-start
 part-check-start c =
-    let c8 = c .before .before .before .before .before .before .before .before in
-    let h = c8 .pre .store .room rel .headed in omega arith
+    let entry = c .before .before .before .before .before .before .before .before in
+    let h = entry .pre .store .room rel .headed in omega arith
 
 sub-check-2 : tie.Need-sub-check-2
 sub-check-2 c =
-    let c9 = c .before .before .before .before .before .before .before .before .before in
-    let h = c9 .pre .store .room set .headed in omega arith
+    let entry = c .before .before .before .before .before .before .before .before .before in
+    let h = entry .pre .store .room set .headed in omega arith
 
 part-check-start-2 : tie.Need-part-check-start-2
 part-check-start-2 c =
-    let c9 = c .before .before .before .before .before .before .before .before .before in
-    let h = c9 .pre .store .room set .headed in omega arith
+    let entry = c .before .before .before .before .before .before .before .before .before in
+    let h = entry .pre .store .room set .headed in omega arith
 
 sub-answer : tie.Need-sub-answer
 sub-answer c =
-    let c14 = c .before .before .before .before .before .before .before .before .before .before .before .before .before .before in
-    let h = c14 .pre .store .room rel .headed in omega arith
+    let entry = c .before .before .before .before .before .before .before .before .before .before .before .before .before .before in
+    let h = entry .pre .store .room rel .headed in omega arith
 
 part-answer-start : tie.Need-part-answer-start
 part-answer-start c =
-    let c14 = c .before .before .before .before .before .before .before .before .before .before .before .before .before .before in
-    let h = c14 .pre .store .room rel .headed in omega arith
+    let entry = c .before .before .before .before .before .before .before .before .before .before .before .before .before .before in
+    let h = entry .pre .store .room rel .headed in omega arith
 
 sub-answer-2 : tie.Need-sub-answer-2
 sub-answer-2 c =
-    let c14 = c .before .before .before .before .before .before .before .before .before .before .before .before .before .before in
-    let c15 = c14 .before in
-    let h = c15 .pre .store .room set .headed in omega arith
+    let after-shared-slice-known = c .before .before .before .before .before .before .before .before .before .before .before .before .before .before in
+    let entry = after-shared-slice-known .before in
+    let h = entry .pre .store .room set .headed in omega arith
 
 part-answer-start-2 : tie.Need-part-answer-start-2
 part-answer-start-2 c =
-    let c14 = c .before .before .before .before .before .before .before .before .before .before .before .before .before .before in
-    let c15 = c14 .before in
-    let h = c15 .pre .store .room set .headed in omega arith
+    let after-shared-slice-known = c .before .before .before .before .before .before .before .before .before .before .before .before .before .before in
+    let entry = after-shared-slice-known .before in
+    let h = entry .pre .store .room set .headed in omega arith
 
 returns : tie.Need-returns
 returns c =
-    let c3 = c .before .before .before in
-    let c6 = c3 .before .before .before in
-    let c8 = c6 .before .before in
-    let c14 = c8 .before .before .before .before .before .before in
-    reading-declined set (memories (c14 .args .relations .now) (c14 .args .sets .now)) (c14 .args .work .now) (c14 .pre) _ (c6 .as-index2 .ensures)
-    (path-reading (c14 .args .call)) _ (both-here _ (c14 .pre .store) (c8 .as-index .ensures) (c6 .as-index2 .ensures) (c3 .check .ensures)) _
-    (c .before .check2 .given .1)
+    let after-check = c .before .before .before in
+    let after-as-index2 = after-check .before .before .before in
+    let after-as-index = after-as-index2 .before .before in
+    let entry = after-as-index .before .before .before .before .before .before in
+    reading-declined set (memories (entry .args .relations .now) (entry .args .sets .now)) (entry .args .work .now) (entry .pre) _
+    (after-as-index2 .as-index2 .ensures)
+    (path-reading (entry .args .call)) _ (both-here _ (entry .pre .store) (after-as-index .as-index .ensures) (after-as-index2 .as-index2 .ensures)
+    (after-check .check .ensures)) _ (c .before .check2 .given .1)
 
 as-level-requires : tie.Need-as-level-requires
 as-level-requires c κs =
-    let c4 = c .before .before .before .before in
-    let c6 = c4 .before .before in
-    let c9 = c6 .before .before .before in
-    let c11 = c9 .before .before in
-    let c17 = c11 .before .before .before .before .before .before in
-    let h = reading-low set (memories (c17 .args .relations .now) (c17 .args .sets .now)) (c17 .args .work .now) (c17 .pre) _ (c9 .as-index2 .ensures)
-    (path-reading (c17 .args .call)) _ (both-here _ (c17 .pre .store) (c11 .as-index .ensures) (c9 .as-index2 .ensures) (c6 .check .ensures)) _
-    (c4 .check3 .given .1) in
+    let after-check3 = c .before .before .before .before in
+    let after-check = after-check3 .before .before in
+    let after-as-index2 = after-check .before .before .before in
+    let after-as-index = after-as-index2 .before .before in
+    let entry = after-as-index .before .before .before .before .before .before in
+    let h = reading-low set (memories (entry .args .relations .now) (entry .args .sets .now)) (entry .args .work .now) (entry .pre) _
+    (after-as-index2 .as-index2 .ensures)
+    (path-reading (entry .args .call)) _ (both-here _ (entry .pre .store) (after-as-index .as-index .ensures) (after-as-index2 .as-index2 .ensures)
+    (after-check .check .ensures)) _ (after-check3 .check3 .given .1) in
     omega arith
 
 returns-2 : tie.Need-returns-2
 returns-2 c =
-    let c3 = c .before .before .before in
-    let c8 = c3 .before .before .before .before .before in
-    let c10 = c8 .before .before in
-    let c13 = c10 .before .before .before in
-    let c15 = c13 .before .before in
-    let c21 = c15 .before .before .before .before .before .before in
-    reading-told set (memories (c21 .args .relations .now) (c21 .args .sets .now)) (c21 .args .work .now) (c21 .pre) _ (c13 .as-index2 .ensures)
-    (path-reading (c21 .args .call)) _ (both-here _ (c21 .pre .store) (c15 .as-index .ensures) (c13 .as-index2 .ensures) (c10 .check .ensures)) _
-    (c8 .check3 .given .1)
-    (other-here _ (c21 .pre .store) set _ (c15 .as-index .ensures)) _ _ (c3 .as-level .ensures) (c .before .before .answer .ensures _)
+    let after-as-level = c .before .before .before in
+    let after-check3 = after-as-level .before .before .before .before .before in
+    let after-check = after-check3 .before .before in
+    let after-as-index2 = after-check .before .before .before in
+    let after-as-index = after-as-index2 .before .before in
+    let entry = after-as-index .before .before .before .before .before .before in
+    reading-told set (memories (entry .args .relations .now) (entry .args .sets .now)) (entry .args .work .now) (entry .pre) _
+    (after-as-index2 .as-index2 .ensures)
+    (path-reading (entry .args .call)) _ (both-here _ (entry .pre .store) (after-as-index .as-index .ensures) (after-as-index2 .as-index2 .ensures)
+    (after-check .check .ensures)) _ (after-check3 .check3 .given .1)
+    (other-here _ (entry .pre .store) set _ (after-as-index .as-index .ensures)) _ _ (after-as-level .as-level .ensures) (c .before .before .answer .ensures _)
 
 pub run-checked-spec : {M : Type 1} → statement M
 run-checked-spec =

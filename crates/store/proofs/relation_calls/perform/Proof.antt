@@ -21,113 +21,113 @@ assign-is k l {b = b} e f = ap (relation-program k l) e ∙ ap (λ v. assign k v
 
 returns : tie.Need-returns
 returns c =
-    let c4 = c .before .before .before .before in
-    let c8 = c4 .before .before .before .before in
-    performs-by (ap (relation-program _ _) (c8 .call .given .1)) (c4 .mk .ensures)
+    let after-mk = c .before .before .before .before in
+    let after-call = after-mk .before .before .before .before in
+    performs-by (ap (relation-program _ _) (after-call .call .given .1)) (after-mk .mk .ensures)
 
 returns-2 : tie.Need-returns-2
 returns-2 c =
-    let c4 = c .before .before .before .before in
-    let c7 = c4 .before .before .before in
-    performs-by (ap (relation-program _ _) (c7 .enum-told .given .1)) (c4 .zero-at-depth .ensures)
+    let after-zero-at-depth = c .before .before .before .before in
+    let after-enum-told = after-zero-at-depth .before .before .before in
+    performs-by (ap (relation-program _ _) (after-enum-told .enum-told .given .1)) (after-zero-at-depth .zero-at-depth .ensures)
 
 returns-3 : tie.Need-returns-3
 returns-3 c =
-    let c4 = c .before .before .before .before in
-    let c7 = c4 .before .before .before in
-    performs-by (ap (relation-program _ _) (c7 .enum-told2 .given .1)) (c4 .one-at-depth .ensures)
+    let after-one-at-depth = c .before .before .before .before in
+    let after-enum-told2 = after-one-at-depth .before .before .before in
+    performs-by (ap (relation-program _ _) (after-enum-told2 .enum-told2 .given .1)) (after-one-at-depth .one-at-depth .ensures)
 
 returns-4 : tie.Need-returns-4
 returns-4 c =
-    let c4 = c .before .before .before .before in
-    let c7 = c4 .before .before .before in
-    performs-by (ap (relation-program _ _) (c7 .enum-told3 .given .1)) (c4 .top-at-depth .ensures)
+    let after-top-at-depth = c .before .before .before .before in
+    let after-enum-told3 = after-top-at-depth .before .before .before in
+    performs-by (ap (relation-program _ _) (after-enum-told3 .enum-told3 .given .1)) (after-top-at-depth .top-at-depth .ensures)
 
 returns-5 : tie.Need-returns-5
 returns-5 c =
-    let c4 = c .before .before .before .before in
-    let c8 = c4 .before .before .before .before in
-    performs-by (ap (relation-program _ _) (c8 .call2 .given .1)) (c4 .union .ensures)
+    let after-union = c .before .before .before .before in
+    let after-call2 = after-union .before .before .before .before in
+    performs-by (ap (relation-program _ _) (after-call2 .call2 .given .1)) (after-union .union .ensures)
 
 returns-6 : tie.Need-returns-6
 returns-6 c =
-    let c4 = c .before .before .before .before in
-    let c8 = c4 .before .before .before .before in
-    performs-by (ap (relation-program _ _) (c8 .call3 .given .1)) (c4 .intersect .ensures)
+    let after-intersect = c .before .before .before .before in
+    let after-call3 = after-intersect .before .before .before .before in
+    performs-by (ap (relation-program _ _) (after-call3 .call3 .given .1)) (after-intersect .intersect .ensures)
 
 returns-7 : tie.Need-returns-7
 returns-7 c =
-    let c4 = c .before .before .before .before in
-    let c8 = c4 .before .before .before .before in
-    performs-by (ap (relation-program _ _) (c8 .call4 .given .1)) (c4 .xor .ensures)
+    let after-xor = c .before .before .before .before in
+    let after-call4 = after-xor .before .before .before .before in
+    performs-by (ap (relation-program _ _) (after-call4 .call4 .given .1)) (after-xor .xor .ensures)
 
 returns-8 : tie.Need-returns-8
 returns-8 c =
-    let c4 = c .before .before .before .before in
-    let c8 = c4 .before .before .before .before in
-    performs-by (ap (relation-program _ _) (c8 .call5 .given .1)) (c4 .difference .ensures)
+    let after-difference = c .before .before .before .before in
+    let after-call5 = after-difference .before .before .before .before in
+    performs-by (ap (relation-program _ _) (after-call5 .call5 .given .1)) (after-difference .difference .ensures)
 
 returns-9 : tie.Need-returns-9
 returns-9 c =
-    let c4 = c .before .before .before .before in
-    let c8 = c4 .before .before .before .before in
-    performs-by (ap (relation-program _ _) (c8 .call6 .given .1)) (c4 .complement .ensures)
+    let after-complement = c .before .before .before .before in
+    let after-call6 = after-complement .before .before .before .before in
+    performs-by (ap (relation-program _ _) (after-call6 .call6 .given .1)) (after-complement .complement .ensures)
 
 returns-10 : tie.Need-returns-10
 returns-10 c =
-    let c4 = c .before .before .before .before in
-    let c8 = c4 .before .before .before .before in
-    performs-by (ap (relation-program _ _) (c8 .call7 .given .1)) (c4 .sequence .ensures)
+    let after-sequence = c .before .before .before .before in
+    let after-call7 = after-sequence .before .before .before .before in
+    performs-by (ap (relation-program _ _) (after-call7 .call7 .given .1)) (after-sequence .sequence .ensures)
 
 returns-11 : tie.Need-returns-11
 returns-11 c =
-    let c4 = c .before .before .before .before in
-    let c8 = c4 .before .before .before .before in
-    performs-by (ap (relation-program _ _) (c8 .call8 .given .1)) (c4 .star .ensures)
+    let after-star = c .before .before .before .before in
+    let after-call8 = after-star .before .before .before .before in
+    performs-by (ap (relation-program _ _) (after-call8 .call8 .given .1)) (after-star .star .ensures)
 
 returns-12 : tie.Need-returns-12
 returns-12 c =
-    let c4 = c .before .before .before .before in
-    let c8 = c4 .before .before .before .before in
-    performs-by (ap (relation-program _ _) (c8 .call9 .given .1)) (c4 .flip .ensures)
+    let after-flip = c .before .before .before .before in
+    let after-call9 = after-flip .before .before .before .before in
+    performs-by (ap (relation-program _ _) (after-call9 .call9 .given .1)) (after-flip .flip .ensures)
 
 returns-13 : tie.Need-returns-13
 returns-13 c =
-    let c4 = c .before .before .before .before in
-    let c5 = c4 .before in
-    let c9 = c5 .before .before .before .before in
-    performs-by (test-is _ _ (c9 .call10 .given .1) (c5 .as-level .ensures)) (c4 .test .ensures)
+    let after-test = c .before .before .before .before in
+    let after-as-level = after-test .before in
+    let after-call10 = after-as-level .before .before .before .before in
+    performs-by (test-is _ _ (after-call10 .call10 .given .1) (after-as-level .as-level .ensures)) (after-test .test .ensures)
 
 returns-14 : tie.Need-returns-14
 returns-14 c =
-    let c4 = c .before .before .before .before in
-    let c5 = c4 .before in
-    let c9 = c5 .before .before .before .before in
-    performs-by (assign-is _ _ (c9 .call11 .given .1) (c5 .as-level2 .ensures)) (c4 .assign .ensures)
+    let after-assign = c .before .before .before .before in
+    let after-as-level2 = after-assign .before in
+    let after-call11 = after-as-level2 .before .before .before .before in
+    performs-by (assign-is _ _ (after-call11 .call11 .given .1) (after-as-level2 .as-level2 .ensures)) (after-assign .assign .ensures)
 
 returns-15 : tie.Need-returns-15
 returns-15 c =
-    let c4 = c .before .before .before .before in
-    let c8 = c4 .before .before .before .before in
-    performs-by (ap (relation-program _ _) (c8 .call12 .given .1)) (c4 .naive-forward .ensures)
+    let after-naive-forward = c .before .before .before .before in
+    let after-call12 = after-naive-forward .before .before .before .before in
+    performs-by (ap (relation-program _ _) (after-call12 .call12 .given .1)) (after-naive-forward .naive-forward .ensures)
 
 returns-16 : tie.Need-returns-16
 returns-16 c =
-    let c4 = c .before .before .before .before in
-    let c8 = c4 .before .before .before .before in
-    performs-by (ap (relation-program _ _) (c8 .call13 .given .1)) (c4 .backward .ensures)
+    let after-backward = c .before .before .before .before in
+    let after-call13 = after-backward .before .before .before .before in
+    performs-by (ap (relation-program _ _) (after-call13 .call13 .given .1)) (after-backward .backward .ensures)
 
 as-level-requires : tie.Need-as-level-requires
 as-level-requires c κs =
-    let c3 = c .before .before .before in
-    let c7 = c3 .before .before .before .before in
-    subst RelationFieldFits (c3 .call10 .given .1) (c7 .pre)
+    let after-call10 = c .before .before .before in
+    let entry = after-call10 .before .before .before .before in
+    subst RelationFieldFits (after-call10 .call10 .given .1) (entry .pre)
 
 as-level-requires-2 : tie.Need-as-level-requires-2
 as-level-requires-2 c κs =
-    let c3 = c .before .before .before in
-    let c7 = c3 .before .before .before .before in
-    subst RelationFieldFits (c3 .call11 .given .1) (c7 .pre)
+    let after-call11 = c .before .before .before in
+    let entry = after-call11 .before .before .before .before in
+    subst RelationFieldFits (after-call11 .call11 .given .1) (entry .pre)
 
 pub perform-spec : {M : Type 1} → statement M
 perform-spec =

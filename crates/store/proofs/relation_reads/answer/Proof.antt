@@ -28,8 +28,8 @@ returns c =
 
 returns-2 : tie.Need-returns-2
 returns-2 c =
-    let c4 = c .before .before .before .before in
-    of-call _ (c4 .call2 .given .1) (reads-truth (is-zero-read-only rel _ _) (λ S s. s) (λ S. refl) (c .before .is-zero .ensures))
+    let after-call2 = c .before .before .before .before in
+    of-call _ (after-call2 .call2 .given .1) (reads-truth (is-zero-read-only rel _ _) (λ S s. s) (λ S. refl) (c .before .is-zero .ensures))
 
 returns-3 : tie.Need-returns-3
 returns-3 c = of-call _ (c .before .before .call3 .given .1) (record { answers = λ B q f R s. ap Truth (c .relates .ensures B _ f s) })

@@ -29,10 +29,10 @@ loop-again : tie.Need-loop-again Inv-loop μ-loop
 loop-again c = (
   half (c .before .before .before),
   λ B n f A.
-      let c3 = c .before .before .before in
-      let W = c3 .before .loop .inv .1 B n f A in
-      let g = c3 .loop-test .taken in
-      walking-next _ _ _ _ g (bit (c .before .before .as-u64 .ensures) (half c3)) (bit (c .before .as-u642 .ensures) (half c3))
+      let in-loop = c .before .before .before in
+      let W = in-loop .before .loop .inv .1 B n f A in
+      let g = in-loop .loop-test .taken in
+      walking-next _ _ _ _ g (bit (c .before .before .as-u64 .ensures) (half in-loop)) (bit (c .before .as-u642 .ensures) (half in-loop))
       (c .child-of .ensures rel B n refl f (walking-within _ g W)) W,
 )
 

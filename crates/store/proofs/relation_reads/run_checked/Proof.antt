@@ -23,32 +23,34 @@ part-check-start c = let h = c .before .before .before .before .before .before .
 
 sub-answer : tie.Need-sub-answer
 sub-answer c =
-    let c11 = c .before .before .before .before .before .before .before .before .before .before .before in
-    let h = c11 .pre .store .room rel .headed in omega arith
+    let entry = c .before .before .before .before .before .before .before .before .before .before .before in
+    let h = entry .pre .store .room rel .headed in omega arith
 
 part-answer-start : tie.Need-part-answer-start
 part-answer-start c =
-    let c11 = c .before .before .before .before .before .before .before .before .before .before .before in
-    let h = c11 .pre .store .room rel .headed in omega arith
+    let entry = c .before .before .before .before .before .before .before .before .before .before .before in
+    let h = entry .pre .store .room rel .headed in omega arith
 
 returns : tie.Need-returns
 returns c =
-    let c3 = c .before .before .before in
-    let c5 = c3 .before .before in
-    let c11 = c5 .before .before .before .before .before .before in
-    let a = c11 .args in
-    reading-declined rel (memories (a .relations .now) (a .sets .now)) (a .work .now) (c11 .pre) _ (c5 .as-index .ensures)
-    (relation-reading (a .call)) _ (checked-here rel (c11 .pre .store) (c5 .as-index .ensures) (c3 .check .ensures)) _ (c .before .check2 .given .1)
+    let after-check = c .before .before .before in
+    let after-as-index = after-check .before .before in
+    let entry = after-as-index .before .before .before .before .before .before in
+    let a = entry .args in
+    reading-declined rel (memories (a .relations .now) (a .sets .now)) (a .work .now) (entry .pre) _ (after-as-index .as-index .ensures)
+    (relation-reading (a .call)) _ (checked-here rel (entry .pre .store) (after-as-index .as-index .ensures) (after-check .check .ensures)) _
+    (c .before .check2 .given .1)
 
 as-level-requires : tie.Need-as-level-requires
 as-level-requires c κs =
-    let c3 = c .before .before .before in
-    let c5 = c3 .before .before in
-    let c7 = c5 .before .before in
-    let c13 = c7 .before .before .before .before .before .before in
-    let a = c13 .args in
-    let h = reading-low rel (memories (a .relations .now) (a .sets .now)) (a .work .now) (c13 .pre) _ (c7 .as-index .ensures)
-    (relation-reading (a .call)) _ (checked-here rel (c13 .pre .store) (c7 .as-index .ensures) (c5 .check .ensures)) _ (c3 .check3 .given .1) in
+    let after-check3 = c .before .before .before in
+    let after-check = after-check3 .before .before in
+    let after-as-index = after-check .before .before in
+    let entry = after-as-index .before .before .before .before .before .before in
+    let a = entry .args in
+    let h = reading-low rel (memories (a .relations .now) (a .sets .now)) (a .work .now) (entry .pre) _ (after-as-index .as-index .ensures)
+    (relation-reading (a .call)) _ (checked-here rel (entry .pre .store) (after-as-index .as-index .ensures) (after-check .check .ensures)) _
+    (after-check3 .check3 .given .1) in
     omega arith
 
 check-requires : tie.Need-check-requires
@@ -56,26 +58,27 @@ check-requires c κs = c .before .before .before .before .before .before .before
 
 answer-requires : tie.Need-answer-requires
 answer-requires c κs =
-    let c4 = c .before .before .before .before in
-    let c6 = c4 .before .before in
-    let c8 = c6 .before .before in
-    let c14 = c8 .before .before .before .before .before .before in
-    let a = c14 .args in
-    let h = reading-low rel (memories (a .relations .now) (a .sets .now)) (a .work .now) (c14 .pre) _ (c8 .as-index .ensures)
-    (relation-reading (a .call)) _ (checked-here rel (c14 .pre .store) (c8 .as-index .ensures) (c6 .check .ensures)) _ (c4 .check3 .given .1) in
+    let after-check3 = c .before .before .before .before in
+    let after-check = after-check3 .before .before in
+    let after-as-index = after-check .before .before in
+    let entry = after-as-index .before .before .before .before .before .before in
+    let a = entry .args in
+    let h = reading-low rel (memories (a .relations .now) (a .sets .now)) (a .work .now) (entry .pre) _ (after-as-index .as-index .ensures)
+    (relation-reading (a .call)) _ (checked-here rel (entry .pre .store) (after-as-index .as-index .ensures) (after-check .check .ensures)) _
+    (after-check3 .check3 .given .1) in
     omega (arith, c .as-level .ensures)
 
 returns-2 : tie.Need-returns-2
 returns-2 c =
-    let c3 = c .before .before .before in
-    let c7 = c3 .before .before .before .before in
-    let c9 = c7 .before .before in
-    let c11 = c9 .before .before in
-    let c17 = c11 .before .before .before .before .before .before in
-    let a = c17 .args in
-    reading-told rel (memories (a .relations .now) (a .sets .now)) (a .work .now) (c17 .pre) _ (c11 .as-index .ensures)
-    (relation-reading (a .call)) _ (checked-here rel (c17 .pre .store) (c11 .as-index .ensures) (c9 .check .ensures)) _ (c7 .check3 .given .1) tt _ _
-    (c3 .as-level .ensures) (c .before .before .answer .ensures)
+    let after-as-level = c .before .before .before in
+    let after-check3 = after-as-level .before .before .before .before in
+    let after-check = after-check3 .before .before in
+    let after-as-index = after-check .before .before in
+    let entry = after-as-index .before .before .before .before .before .before in
+    let a = entry .args in
+    reading-told rel (memories (a .relations .now) (a .sets .now)) (a .work .now) (entry .pre) _ (after-as-index .as-index .ensures)
+    (relation-reading (a .call)) _ (checked-here rel (entry .pre .store) (after-as-index .as-index .ensures) (after-check .check .ensures)) _
+    (after-check3 .check3 .given .1) tt _ _ (after-as-level .as-level .ensures) (c .before .before .answer .ensures)
 
 pub run-checked-spec : {M : Type 1} → statement M
 run-checked-spec =

@@ -22,71 +22,71 @@ ifelse-is k l {t = t} {e = e} q f = ap (set-program k l) q ∙ ap (λ v. ifelse 
 
 returns : tie.Need-returns
 returns c =
-    let c4 = c .before .before .before .before in
-    let c8 = c4 .before .before .before .before in
-    performs-by (ap (set-program _ _) (c8 .call .given .1)) (c4 .mk .ensures)
+    let after-mk = c .before .before .before .before in
+    let after-call = after-mk .before .before .before .before in
+    performs-by (ap (set-program _ _) (after-call .call .given .1)) (after-mk .mk .ensures)
 
 returns-2 : tie.Need-returns-2
 returns-2 c =
-    let c4 = c .before .before .before .before in
-    let c7 = c4 .before .before .before in
-    performs-by (ap (set-program _ _) (c7 .enum-told .given .1)) (c4 .zero-at-depth .ensures)
+    let after-zero-at-depth = c .before .before .before .before in
+    let after-enum-told = after-zero-at-depth .before .before .before in
+    performs-by (ap (set-program _ _) (after-enum-told .enum-told .given .1)) (after-zero-at-depth .zero-at-depth .ensures)
 
 returns-3 : tie.Need-returns-3
 returns-3 c =
-    let c4 = c .before .before .before .before in
-    let c7 = c4 .before .before .before in
-    performs-by (ap (set-program _ _) (c7 .enum-told2 .given .1)) (c4 .one-at-depth .ensures)
+    let after-one-at-depth = c .before .before .before .before in
+    let after-enum-told2 = after-one-at-depth .before .before .before in
+    performs-by (ap (set-program _ _) (after-enum-told2 .enum-told2 .given .1)) (after-one-at-depth .one-at-depth .ensures)
 
 returns-4 : tie.Need-returns-4
 returns-4 c =
-    let c4 = c .before .before .before .before in
-    let c8 = c4 .before .before .before .before in
-    performs-by (ap (set-program _ _) (c8 .call2 .given .1)) (c4 .union .ensures)
+    let after-union = c .before .before .before .before in
+    let after-call2 = after-union .before .before .before .before in
+    performs-by (ap (set-program _ _) (after-call2 .call2 .given .1)) (after-union .union .ensures)
 
 returns-5 : tie.Need-returns-5
 returns-5 c =
-    let c4 = c .before .before .before .before in
-    let c8 = c4 .before .before .before .before in
-    performs-by (ap (set-program _ _) (c8 .call3 .given .1)) (c4 .intersect .ensures)
+    let after-intersect = c .before .before .before .before in
+    let after-call3 = after-intersect .before .before .before .before in
+    performs-by (ap (set-program _ _) (after-call3 .call3 .given .1)) (after-intersect .intersect .ensures)
 
 returns-6 : tie.Need-returns-6
 returns-6 c =
-    let c4 = c .before .before .before .before in
-    let c8 = c4 .before .before .before .before in
-    performs-by (ap (set-program _ _) (c8 .call4 .given .1)) (c4 .xor .ensures)
+    let after-xor = c .before .before .before .before in
+    let after-call4 = after-xor .before .before .before .before in
+    performs-by (ap (set-program _ _) (after-call4 .call4 .given .1)) (after-xor .xor .ensures)
 
 returns-7 : tie.Need-returns-7
 returns-7 c =
-    let c4 = c .before .before .before .before in
-    let c8 = c4 .before .before .before .before in
-    performs-by (ap (set-program _ _) (c8 .call5 .given .1)) (c4 .difference .ensures)
+    let after-difference = c .before .before .before .before in
+    let after-call5 = after-difference .before .before .before .before in
+    performs-by (ap (set-program _ _) (after-call5 .call5 .given .1)) (after-difference .difference .ensures)
 
 returns-8 : tie.Need-returns-8
 returns-8 c =
-    let c4 = c .before .before .before .before in
-    let c5 = c4 .before in
-    let c9 = c5 .before .before .before .before in
-    performs-by (test-is _ _ (c9 .call6 .given .1) (c5 .as-level .ensures)) (c4 .test .ensures)
+    let after-test = c .before .before .before .before in
+    let after-as-level = after-test .before in
+    let after-call6 = after-as-level .before .before .before .before in
+    performs-by (test-is _ _ (after-call6 .call6 .given .1) (after-as-level .as-level .ensures)) (after-test .test .ensures)
 
 returns-9 : tie.Need-returns-9
 returns-9 c =
-    let c4 = c .before .before .before .before in
-    let c5 = c4 .before in
-    let c9 = c5 .before .before .before .before in
-    performs-by (ifelse-is _ _ (c9 .call7 .given .1) (c5 .as-level2 .ensures)) (c4 .ifelse .ensures)
+    let after-ifelse = c .before .before .before .before in
+    let after-as-level2 = after-ifelse .before in
+    let after-call7 = after-as-level2 .before .before .before .before in
+    performs-by (ifelse-is _ _ (after-call7 .call7 .given .1) (after-as-level2 .as-level2 .ensures)) (after-ifelse .ifelse .ensures)
 
 as-level-requires : tie.Need-as-level-requires
 as-level-requires c κs =
-    let c3 = c .before .before .before in
-    let c7 = c3 .before .before .before .before in
-    subst SetFieldFits (c3 .call6 .given .1) (c7 .pre)
+    let after-call6 = c .before .before .before in
+    let entry = after-call6 .before .before .before .before in
+    subst SetFieldFits (after-call6 .call6 .given .1) (entry .pre)
 
 as-level-requires-2 : tie.Need-as-level-requires-2
 as-level-requires-2 c κs =
-    let c3 = c .before .before .before in
-    let c7 = c3 .before .before .before .before in
-    subst SetFieldFits (c3 .call7 .given .1) (c7 .pre)
+    let after-call7 = c .before .before .before in
+    let entry = after-call7 .before .before .before .before in
+    subst SetFieldFits (after-call7 .call7 .given .1) (entry .pre)
 
 pub perform-spec : {M : Type 1} → statement M
 perform-spec =

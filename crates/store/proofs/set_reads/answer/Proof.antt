@@ -28,14 +28,14 @@ returns-2 c = of-call _ (c .before .before .call2 .given .1) (reads-number (λ S
 
 returns-3 : tie.Need-returns-3
 returns-3 c =
-    let c4 = c .before .before .before .before in
-    of-call _ (c4 .call3 .given .1) (reads-truth (is-zero-read-only set _ _) (λ S s. s) (λ S. refl) (c .before .is-zero .ensures))
+    let after-call3 = c .before .before .before .before in
+    of-call _ (after-call3 .call3 .given .1) (reads-truth (is-zero-read-only set _ _) (λ S s. s) (λ S. refl) (c .before .is-zero .ensures))
 
 returns-4 : tie.Need-returns-4
 returns-4 c =
-    let c3 = c .before .before .before in
-    let c6 = c3 .before .before .before in
-    of-call _ (c6 .call4 .given .1) (reads-truth (intersects-read-only _ _ _) (λ S s. s) (λ S. refl) (c3 .intersects .ensures))
+    let after-intersects = c .before .before .before in
+    let after-call4 = after-intersects .before .before .before in
+    of-call _ (after-call4 .call4 .given .1) (reads-truth (intersects-read-only _ _ _) (λ S s. s) (λ S. refl) (after-intersects .intersects .ensures))
 
 pub answer-spec : {M : Type 1} → statement M
 answer-spec =

@@ -19,7 +19,8 @@ ends : (c : tie.Else2) → (let a = c .before .before .before .before .before .b
 ends c = part-ends _ _ _ _ (c .before .before .before .places-of .ensures) (omega arith)
 
 returns-3 : tie.Need-returns-3
-returns-3 c = λ K e a b. room-is K _ _ _ _ e a b _ _ (c .before .before .before .before .places-of .ensures) (c .before .before .as-index .ensures) (omega arith)
+returns-3 c = λ K e a b. room-is K _ _ _ _ e a b _ _ (c .before .before .before .before .places-of .ensures) (c .before .before .as-index .ensures)
+    (omega arith)
     (omega arith) (c .zeros .ensures)
 
 pub has-room-spec : {M : Type 1} → statement M

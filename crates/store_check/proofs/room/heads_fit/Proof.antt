@@ -16,9 +16,9 @@ returns-2 c = no-room set (c .before .has-room2 .ensures set refl refl refl) (no
 
 returns-3 : tie.Need-returns-3
 returns-3 c =
-    let i = c .before .before .before in
-    heads-say (i .before .has-room .ensures rel refl refl refl) (c .before .before .has-room2 .ensures set refl refl refl) (not-false _ (i .if1 .left))
-    (not-false _ (c .before .if2 .left)) (few-say _)
+    let at-if1 = c .before .before .before in
+    heads-say (at-if1 .before .has-room .ensures rel refl refl refl) (c .before .before .has-room2 .ensures set refl refl refl)
+    (not-false _ (at-if1 .if1 .left)) (not-false _ (c .before .if2 .left)) (few-say _)
 
 pub heads-fit-spec : {M : Type 1} → statement M
 heads-fit-spec =
@@ -28,5 +28,8 @@ heads-fit-spec =
     returns
     (λ c κs. search needs)
     returns-2
-    (λ c. let i = c .before .before .before in omega (arith, room-headed rel _ (i .before .has-room .ensures rel refl refl refl) (not-false _ (i .if1 .left))))
+    (λ c. let at-if1 = c .before .before .before in omega (
+      arith,
+      room-headed rel _ (at-if1 .before .has-room .ensures rel refl refl refl) (not-false _ (at-if1 .if1 .left)),
+    ))
     returns-3)
