@@ -6,6 +6,7 @@ use Prim.Native.Nat.{ℕ, _+_, _-_, _*_, _<_, _≤_}
 use native.Mathlib.Omega.{arith}
 use lib.ListN.{length}
 use borrow.Rule.Slice.PartMut.{putMid}
+use Rattle.memory.specs.Rows.{most-places}
 use Rattle.model.specs.Store.{Kind, arity, Store}
 use Rattle.model.specs.Programs.{Prog, Ran, run}
 use Rattle.model.specs.Safety.{Safe}
@@ -74,7 +75,7 @@ module _ (K : Kind) (M : Memories) (w : List ℕ) (Y : CheckedStore K M w) (n : 
         same : Z .program k′ l′ ≡ Z .program (fields M) l
         same i = Z .program (ek i) (el i)
 
-        pub adding-within : (n ≤ s .n) × (s .n ≤ 4096)
+        pub adding-within : (n ≤ s .n) × (s .n ≤ most-places)
             × (head K + arity K * s .n ≤ length (putMid (head K) (length (memory K M) - head K) (memory K M) b))
         adding-within = within-memory K M w Y n en on _ _ b w′ s same safe-here P
 

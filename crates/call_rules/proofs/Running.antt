@@ -13,7 +13,7 @@ use Rattle.model.specs.Programs.{Prog, Ran, run}
 use Rattle.model.specs.Safety.{Safe}
 use Rattle.model.specs.WellFormed.{WellFormed}
 use Rattle.memory.specs.Performing.{run-state, other, Condition, PerformsOn, OtherNodes, Runs}
-use Rattle.memory.specs.Rows.{rows, places, plain}
+use Rattle.memory.specs.Rows.{rows, places, plain, most-places}
 use Rattle.memory.specs.Working.{Right}
 use Rattle.memory.specs.declared.RunState.{RunState}
 use Rattle.memory.proofs.Rows.{places-fit}
@@ -143,7 +143,7 @@ module _ (K : Kind) (M : Memories) (w : List ℕ) (Y : CheckedStore K M w) (n : 
         }))))
 
     -- what the program wrote is within the memory
-    pub within-memory : (n ≤ r .n) × (r .n ≤ 4096) × (head K + arity K * r .n ≤ length (putMid (head K) (length m - head K) m b))
+    pub within-memory : (n ≤ r .n) × (r .n ≤ most-places) × (head K + arity K * r .n ≤ length (putMid (head K) (length m - head K) m b))
     within-memory =
         let W = runs-here .writes in
         let l : length (putMid (head K) (length m - head K) m b) ≡ head K + length b

@@ -2,6 +2,7 @@
 ghost use mathlib.Core.Path.{_≡_};
 ghost use Prim.Native.Nat.{ℕ, _+_, _*_, _<_, _≤_};
 ghost use lib.ListN.{length};
+ghost use Rattle.memory.specs.Rows.{most-places};
 ghost use Rattle.call_rules.specs.Finishing.{Finished};
 
 // The handle, or 6 and the nodes are again as they were: n nodes of c numbers, which begin at `start`; their count is at `at`.
@@ -13,7 +14,7 @@ pub fn finish(
     n: usize,
     r: memory::RunState,
 ) -> crate::Answer
-    requires { ⌜ (at < start) × (n ≤ r .n) × (r .n ≤ 4096) × (start + c * r .n ≤ length (now memory)) ⌝ }
+    requires { ⌜ (at < start) × (n ≤ r .n) × (r .n ≤ most-places) × (start + c * r .n ≤ length (now memory)) ⌝ }
     ensures { λ a. ⌜ Finished (now (memory .entry)) (now (memory .exit)) at start c n r a ⌝ }
 {
     store_check::commit::commit(memory, at, start, c, n, r);

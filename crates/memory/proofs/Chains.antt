@@ -10,8 +10,8 @@ use native.Mathlib.Omega.{arith}
 use lib.ListN.{length, getD, set, take, drop, length-set, drop-of-length-le}
 use lib.Seq.{drop-cons, getD-set-same, getD-set-other, take-set-le, drop-set-lt}
 use borrow.Author.Tests.{eq-eqb, ne-eqb}
-use Rattle.memory.specs.Rows.{row}
-use Rattle.memory.specs.Working.{memo-size, bucket, last-in, Chained, Indexed, index-size}
+use Rattle.memory.specs.Rows.{row, most-places}
+use Rattle.memory.specs.Working.{memo-size, bucket, last-in, Chained, Indexed, index-size, part-size}
 use Rattle.memory.specs.Finding.{Finds, Entered}
 use Rattle.memory.proofs.Rows.{row-agree}
 
@@ -145,31 +145,31 @@ module _ (node : ℕ → List ℕ) (n : ℕ) (x : List ℕ) where
   finds-any good r f = record { low = f .low; hit = f .hit; none = λ g. f .none refl }
 
   module _ (w : List ℕ) (at : ℕ) where
-    abbrev LooksUp : ℕ → Type 0
-    LooksUp r = (good : Bool) → at ≡ memo-size (length w) → (good ≡ true → Indexed node w n) → Finds node n x good r
+    abbrev SearchIs : ℕ → Type 0
+    SearchIs r = (good : Bool) → at ≡ memo-size (length w) → (good ≡ true → Indexed node w n) → Finds node n x good r
 
     -- from the head of the bucket, and along a link
-    pub trail-start : (b v : ℕ) → b ≡ bucket x → b < 4096 → v ≡ getD w (at + b) 0 → Trail node w at n x v
+    pub trail-start : (b v : ℕ) → b ≡ bucket x → b < part-size → v ≡ getD w (at + b) 0 → Trail node w at n x v
     trail-start b v eb lb ev =
         record {
           along =
               λ e h. along-start v (ev ∙ ap (λ (i : ℕ). getD w (i + b) 0) e ∙ h .heads b lb ∙ ap (λ (i : ℕ). last-in node i n) eb);
         }
 
-    link-is : (v next : ℕ) → 0 < v → v ≤ n → next ≡ getD w (at + 4096 + (v - 1)) 0 → at ≡ memo-size (length w) → Chained node w n
+    link-is : (v next : ℕ) → 0 < v → v ≤ n → next ≡ getD w (at + part-size + (v - 1)) 0 → at ≡ memo-size (length w) → Chained node w n
         → next ≡ last-in node (bucket (node (v - 1))) (v - 1)
-    link-is v next p l en e h = en ∙ ap (λ (i : ℕ). getD w (i + 4096 + (v - 1)) 0) e ∙ h .links (v - 1) (omega arith)
+    link-is v next p l en e h = en ∙ ap (λ (i : ℕ). getD w (i + part-size + (v - 1)) 0) e ∙ h .links (v - 1) (omega arith)
 
-    pub trail-next : (v next : ℕ) → 0 < v → v ≤ n → (node (v - 1) ≡ x → ⊥) → next ≡ getD w (at + 4096 + (v - 1)) 0
+    pub trail-next : (v next : ℕ) → 0 < v → v ≤ n → (node (v - 1) ≡ x → ⊥) → next ≡ getD w (at + part-size + (v - 1)) 0
         → Trail node w at n x v → Trail node w at n x next
     trail-next v next p l s en t = record { along = λ e h. along-next v next p (t .along e h) s (link-is v next p l en e h) }
 
     module _ (room : at + index-size ≤ length w) (v : ℕ) where
       -- a value past the nodes, and a link that does not lead down, are in no right index
-      pub trail-past : n < v → Trail node w at n x v → LooksUp n
+      pub trail-past : n < v → Trail node w at n x v → SearchIs n
       trail-past l t good e ix = finds-none good (λ g. absurd (let a = t .along e (ix g (omega arith)) in omega (arith, a .low)))
 
-      pub trail-wrong : (next : ℕ) → 0 < v → v ≤ n → next ≡ getD w (at + 4096 + (v - 1)) 0 → v ≤ next → LooksUp n
+      pub trail-wrong : (next : ℕ) → 0 < v → v ≤ n → next ≡ getD w (at + part-size + (v - 1)) 0 → v ≤ next → SearchIs n
       trail-wrong next p l en up good e ix =
           finds-none good
           (λ g.
@@ -177,13 +177,13 @@ module _ (node : ℕ → List ℕ) (n : ℕ) (x : List ℕ) where
           (omega
           (arith, last-le node (bucket (node (v - 1))) (v - 1), link-is v next p l en e (ix g (omega arith)))))
 
-      pub trail-end : v ≡ 0 → Trail node w at n x v → LooksUp n
+      pub trail-end : v ≡ 0 → Trail node w at n x v → SearchIs n
       trail-end z t good e ix = finds-none good (λ g k l. t .along e (ix g (omega arith)) .none k (omega arith) l)
 
 -- node n at the head of its chain
 module _ (node : ℕ → List ℕ) (w : List ℕ) (n at b : ℕ) where
   abbrev one : List ℕ
-  one = set w (at + 4096 + n) (getD w (at + b) 0)
+  one = set w (at + part-size + n) (getD w (at + b) 0)
 
   abbrev entered : List ℕ
   entered = set one (at + b) (n + 1)
@@ -191,7 +191,7 @@ module _ (node : ℕ → List ℕ) (w : List ℕ) (n at b : ℕ) where
   entered-length : length entered ≡ length w
   entered-length = simp length-set
 
-  chained-enter : at ≡ memo-size (length w) → b ≡ bucket (node n) → b < 4096 → n < 4096 → at + index-size ≤ length w → Chained node w n
+  chained-enter : at ≡ memo-size (length w) → b ≡ bucket (node n) → b < part-size → n < most-places → at + index-size ≤ length w → Chained node w n
       → Chained node entered (n + 1)
   chained-enter ea eb lb ln room h =
       record {
@@ -199,39 +199,41 @@ module _ (node : ℕ → List ℕ) (w : List ℕ) (n at b : ℕ) where
         links = λ i l. rw (entered-length, ← ea) (link i l (ℕ-discrete i n));
       }
     where
-      head-old : (c : ℕ) → c < 4096 → getD w (at + c) 0 ≡ last-in node c n
+      head-old : (c : ℕ) → c < part-size → getD w (at + c) 0 ≡ last-in node c n
       head-old c l = rw ea (h .heads c l)
 
-      head : (c : ℕ) → c < 4096 → Dec (c ≡ b) → getD entered (at + c) 0 ≡ last-in node c (n + 1)
+      head : (c : ℕ) → c < part-size → Dec (c ≡ b) → getD entered (at + c) 0 ≡ last-in node c (n + 1)
       head c l (yes e) =
           rw (add-one, last-hit node c n (sym eb ∙ sym e), e)
-          (getD-set-same one (at + b) (suc n) 0 (omega (arith, length-set w (at + 4096 + n) (getD w (at + b) 0))))
+          (getD-set-same one (at + b) (suc n) 0 (omega (arith, length-set w (at + part-size + n) (getD w (at + b) 0))))
       head c l (no e) =
           rw (add-one, last-miss node c n (λ d. e (sym d ∙ sym eb)))
           (getD-set-other one (at + b) (at + c) (suc n) 0 (λ d. e (omega arith))
-          ∙ getD-set-other w (at + 4096 + n) (at + c) (getD w (at + b) 0) 0 (omega arith)
+          ∙ getD-set-other w (at + part-size + n) (at + c) (getD w (at + b) 0) 0 (omega arith)
           ∙ head-old c l)
 
-      link : (i : ℕ) → i < n + 1 → Dec (i ≡ n) → getD entered (at + 4096 + i) 0 ≡ last-in node (bucket (node i)) i
+      link : (i : ℕ) → i < n + 1 → Dec (i ≡ n) → getD entered (at + part-size + i) 0 ≡ last-in node (bucket (node i)) i
       link i l (yes e) =
-          getD-set-other one (at + b) (at + 4096 + i) (n + 1) 0 (omega arith)
-          ∙ rw (e, ← eb) (getD-set-same w (at + 4096 + n) (getD w (at + b) 0) 0 (omega arith) ∙ head-old b lb)
+          getD-set-other one (at + b) (at + part-size + i) (n + 1) 0 (omega arith)
+          ∙ rw (e, ← eb) (getD-set-same w (at + part-size + n) (getD w (at + b) 0) 0 (omega arith) ∙ head-old b lb)
       link i l (no e) =
-          getD-set-other one (at + b) (at + 4096 + i) (n + 1) 0 (omega arith)
-          ∙ getD-set-other w (at + 4096 + n) (at + 4096 + i) (getD w (at + b) 0) 0 (omega arith)
+          getD-set-other one (at + b) (at + part-size + i) (n + 1) 0 (omega arith)
+          ∙ getD-set-other w (at + part-size + n) (at + part-size + i) (getD w (at + b) 0) 0 (omega arith)
           ∙ rw ea (h .links i (omega arith))
 
-  pub enter-joins : at ≡ memo-size (length w) → b ≡ bucket (node n) → b < 4096 → n < 4096 → at + index-size ≤ length w → Entered node n w entered
+  pub enter-joins : at ≡ memo-size (length w) → b ≡ bucket (node n) → b < part-size → n < most-places → at + index-size ≤ length w → Entered node n w entered
   enter-joins ea eb lb ln room =
       record {
         index = λ ix l. chained-enter ea eb lb ln room (ix (omega arith));
-        memo =
-            rw (← ea)
-            (take-set-le at one (at + b) (n + 1) (omega arith)
-            ∙ take-set-le at w (at + 4096 + n) (getD w (at + b) 0) (omega arith));
-        words =
-            rw (← ea)
-            (drop-set-lt (at + index-size) one (at + b) (n + 1) (omega arith)
-            ∙ drop-set-lt (at + index-size) w (at + 4096 + n) (getD w (at + b) 0) (omega arith));
-        work-length = entered-length;
+        apart = record {
+          memo =
+              rw (← ea)
+              (take-set-le at one (at + b) (n + 1) (omega arith)
+              ∙ take-set-le at w (at + part-size + n) (getD w (at + b) 0) (omega arith));
+          words =
+              rw (← ea)
+              (drop-set-lt (at + index-size) one (at + b) (n + 1) (omega arith)
+              ∙ drop-set-lt (at + index-size) w (at + part-size + n) (getD w (at + b) 0) (omega arith));
+          work-length = entered-length;
+        };
       }

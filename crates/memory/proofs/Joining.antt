@@ -28,8 +28,8 @@ use Rattle.memory.specs.declared.RunState.{RunState}
 use Rattle.memory.specs.Performing.{run-state, Ready, ends, Runs, Joins, JoinsAs}
 use Rattle.memory.specs.Finding.{Search, Entered}
 use Rattle.memory.specs.Noting.{Noted}
-use Rattle.memory.specs.Rows.{row, rows, places, plain}
-use Rattle.memory.specs.Working.{memo-size, links-at, words-at, Indexed, properties-in, Has, Known, Words, Entry, Remembers, Right, index-size}
+use Rattle.memory.specs.Rows.{row, rows, places, plain, most-places}
+use Rattle.memory.specs.Working.{memo-size, links-at, words-at, Indexed, properties-in, Has, Known, Words, Entry, Remembers, Right, index-size, part-size}
 use Rattle.memory.proofs.Chains.{indexed-agree}
 use Rattle.memory.proofs.Known.{known-nothing}
 use Rattle.memory.proofs.Parts.{words-same, entry-same}
@@ -95,7 +95,7 @@ unfolding Entry
 entry-later x E f z = settled-later E (f z)
 
 -- PARTS of the working memory after a word was noted and a node entered the index
-apart : (J K : Kind) (l i n : ℕ) → i < 4096 → n < 4096 → words-at J l + i ≡ words-at K l + n → (J ≡ K) × (i ≡ n)
+apart : (J K : Kind) (l i n : ℕ) → i < most-places → n < most-places → words-at J l + i ≡ words-at K l + n → (J ≡ K) × (i ≡ n)
 apart set set l i n a b e = (refl, omega arith)
 apart rel rel l i n a b e = (refl, omega arith)
 apart set rel l i n a b e = absurd (omega arith)
@@ -119,12 +119,12 @@ module _ (K : Kind) (x : List ℕ) (n : ℕ) (w w₁ : List ℕ) (N : Noted K x 
     | inr e ↦ ap (take (memo-size (length w))) e ∙ take-set-le (memo-size (length w)) w _ _ (omega (arith, after-index K (length w) n 0 (omega arith)))
   ]
 
-  noted-index : {node : ℕ → List ℕ} → Indexed node w n → n ≤ 4096 → Indexed node w₁ n
-  noted-index {node} h q l = let c = h (subst (λ k. links-at k + 4096 ≤ k) noted-long l) in record {
+  noted-index : {node : ℕ → List ℕ} → Indexed node w n → n ≤ most-places → Indexed node w₁ n
+  noted-index {node} h q l = let c = h (subst (λ k. links-at k + part-size ≤ k) noted-long l) in record {
     heads = λ a i. ap (λ k. getD w₁ (memo-size k + a) 0) noted-long ∙ noted-other _ (λ e. omega (arith, e, after-index K (length w) n a (omega arith)))
         ∙ c .heads a i;
-    links = λ a i. ap (λ k. getD w₁ (memo-size k + 4096 + a) 0) noted-long
-        ∙ noted-other _ (λ e. omega (arith, e, after-index K (length w) n (4096 + a) (omega arith))) ∙ c .links a i;
+    links = λ a i. ap (λ k. getD w₁ (memo-size k + part-size + a) 0) noted-long
+        ∙ noted-other _ (λ e. omega (arith, e, after-index K (length w) n (part-size + a) (omega arith))) ∙ c .links a i;
   }
 
   -- the word that was noted, where there was room for it
@@ -247,9 +247,10 @@ module _ {K : Kind} {B : Store} {s : RunState} {m w : List ℕ} (y x : List ℕ)
 
       -- each word but the new one is as it was
       word-entered : (J : Kind) (i : ℕ) → getD w₂ (words-at J (length w₂) + i) 0 ≡ getD w₁ (words-at J (length w₁) + i) 0
-      word-entered = words-same w₁ w₂ (E .work-length) (E .words)
+      word-entered = words-same w₁ w₂ (E .apart .work-length) (E .apart .words)
 
-      word-other : (J : Kind) (i : ℕ) → ¬ ((J ≡ K) × (i ≡ s .n)) → i < 4096 → getD w₂ (words-at J (length w₂) + i) 0 ≡ getD w (words-at J (length w) + i) 0
+      word-other : (J : Kind) (i : ℕ) → ¬ ((J ≡ K) × (i ≡ s .n)) → i < most-places
+          → getD w₂ (words-at J (length w₂) + i) 0 ≡ getD w (words-at J (length w) + i) 0
       word-other J i o a = word-entered J i ∙ ap (λ k. getD w₁ (words-at J k + i) 0) long
           ∙ noted-other K x (s .n) w w₁ N _ (λ q. o (apart J K (length w) i (s .n) a (omega arith) q))
 
@@ -274,7 +275,7 @@ module _ {K : Kind} {B : Store} {s : RunState} {m w : List ℕ} (y x : List ℕ)
           S′ : Store
           S′ = plain K B m′ (s .n + 1)
 
-          old : (J : Kind) (i : ℕ) → ¬ ((J ≡ K) × (i ≡ s .n)) → i < 4096 → i < length (nodes J S′)
+          old : (J : Kind) (i : ℕ) → ¬ ((J ≡ K) × (i ≡ s .n)) → i < most-places → i < length (nodes J S′)
               → Known J S′ (handle-of J 0 i) (getD w₂ (words-at J (length w₂) + i) 0)
           old J i o a b = subst (λ v. Known J S′ (handle-of J 0 i) v) (sym (word-other J i o a)) (words-before J i a b)
 
@@ -292,8 +293,9 @@ module _ {K : Kind} {B : Store} {s : RunState} {m w : List ℕ} (y x : List ℕ)
 
       memo-after : Remembers w₂ (plain K B m′ (s .n + 1))
       memo-after j f =
-          let g : 4 * j + 3 < memo-size (length w) = subst (λ k. 4 * j + 3 < memo-size k) (E .work-length ∙ long) f in
-          let t : take (memo-size (length w)) w₂ ≡ take (memo-size (length w)) w = subst (λ k. take (memo-size k) w₂ ≡ take (memo-size k) w₁) long (E .memo)
+          let g : 4 * j + 3 < memo-size (length w) = subst (λ k. 4 * j + 3 < memo-size k) (E .apart .work-length ∙ long) f in
+          let t : take (memo-size (length w)) w₂ ≡ take (memo-size (length w)) w = subst (λ k. take (memo-size k) w₂ ≡ take (memo-size k) w₁) long
+          (E .apart .memo)
           ∙ noted-memo K x (s .n) w w₁ N in
           entry-later (row 4 w₂ j) put-extends (subst (λ z. Entry z (plain K B m (s .n))) (sym (entry-same w w₂ t j g))
           (R .live ok .work .memo j g))
@@ -326,7 +328,7 @@ module _ {K : Kind} {B : Store} {s : RunState} {m w : List ℕ} (y x : List ℕ)
           most = omega arith;
           long = ap length p ∙ paste-long (arity K) (s .n) m x sized fits;
         };
-        work-length = E .work-length ∙ long;
+        work-length = E .apart .work-length ∙ long;
       }
 
 -- THE RETURNS of `join`, over every store: after a failure, with a count that has no places, and the three above

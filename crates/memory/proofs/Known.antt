@@ -17,7 +17,7 @@ use Rattle.model.proofs.Canonical.{walk-bit}
 use Rattle.model.proofs.Canonical.{formed-sized}
 use Rattle.model.proofs.Complements.{signed-held, signed-walk}
 use Rattle.model.proofs.Tests.{agrees-walk, walk-agrees}
-use Rattle.memory.specs.Working.{words-at, properties-in, Has, Known, Words}
+use Rattle.memory.specs.Working.{words-at, properties-in, Has, Known, Words, part-size}
 use Rattle.memory.specs.Noting.{WordsOf, properties, in-both, Gathers}
 use Rattle.memory.specs.declared.Properties.{Properties}
 
@@ -121,7 +121,7 @@ known-at K S ws i W b p zero A = absurd (omega (arith, handle-big K i))
 known-at K S ws i W b p (suc l) A = W i b (rw (index-handle K 0 i) at (A .there)) p (suc l) A
 
 -- the words of one kind, as a part of the working memory
-pub words-part : (K : Kind) (w : List ℕ) (S : Store) (s e : ℕ) → s ≡ min (words-at K (length w)) (length w) → e ≤ length w → e ≤ s + 4096 → Words w S
+pub words-part : (K : Kind) (w : List ℕ) (S : Store) (s e : ℕ) → s ≡ min (words-at K (length w)) (length w) → e ≤ length w → e ≤ s + part-size → Words w S
     → WordsOf K (take (e - s) (drop s w)) S
 words-part K w S s e q a b W i l t =
     let z : length (take (e - s) (drop s w)) ≡ e - s = length-take-le (e - s) (drop s w) (omega (arith, length-drop s w)) in
@@ -129,7 +129,7 @@ words-part K w S s e q a b W i l t =
     subst (Known K S (handle-of K 0 i)) (sym (getD-take (e - s) (drop s w) i 0 (omega arith) ∙ getD-drop s w i 0 ∙ ap (λ s. getD w (s + i) 0) j))
     (W K i (omega arith) t)
 
-pub gathers-in : {K : Kind} (w x : List ℕ) (s e r : ℕ) → s ≡ min (words-at K (length w)) (length w) → e ≤ length w → e ≤ s + 4096
+pub gathers-in : {K : Kind} (w x : List ℕ) (s e r : ℕ) → s ≡ min (words-at K (length w)) (length w) → e ≤ length w → e ≤ s + part-size
     → Gathers K (WordsOf K (take (e - s) (drop s w))) x r → Gathers K (Words w) x r
 gathers-in {K} w x s e r q a b G = record {
   known = λ k S h F W. G .known k S h F (words-part K w S s e q a b W);

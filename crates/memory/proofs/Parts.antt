@@ -7,7 +7,7 @@ use lib.ListN.{length, getD, take, drop}
 use lib.Seq.{getD-drop, take-take}
 use Rattle.model.specs.Store.{Kind, set, rel}
 use Rattle.memory.specs.Rows.{row}
-use Rattle.memory.specs.Working.{memo-size, words-at, index-size}
+use Rattle.memory.specs.Working.{memo-size, words-at, index-size, part-size}
 use Rattle.memory.proofs.Rows.{row-agree}
 
 pub drop-at-same : (n : ℕ) (w w′ : List ℕ) → drop n w′ ≡ drop n w → (i : ℕ) → getD w′ (n + i) 0 ≡ getD w (n + i) 0
@@ -16,7 +16,7 @@ drop-at-same n w w′ e i = sym (getD-drop n w′ i 0) ∙ ap (λ l. getD l i 0)
 -- a word's place behind memo and index
 abbrev spare : Kind → ℕ
 spare rel = 0
-spare set = 4096
+spare set = part-size
 
 word-place : (J : Kind) (l i : ℕ) → words-at J l + i ≡ memo-size l + index-size + (spare J + i)
 word-place set l i = omega arith

@@ -19,7 +19,7 @@ use Rattle.memory.specs.declared.Lookup.the-variants.{Answer, Operands}
 use Rattle.memory.specs.Performing.{Ready, Condition, PerformsOn, ReducesTo, ReducesOn, looked-up, LooksUpOn, Recalls, KeepsEntry, Remembered}
 use Rattle.memory.specs.Memo.{memo-program}
 use Rattle.memory.specs.Rows.{row, places, plain}
-use Rattle.memory.specs.Working.{memo-size, links-at, words-at, Indexed, Known, tag, Entry, Remembers, Right, index-size, set-words-from}
+use Rattle.memory.specs.Working.{memo-size, links-at, words-at, Indexed, Known, tag, Entry, Remembers, Right, index-size, set-words-from, part-size}
 use Rattle.memory.proofs.Parts.{drop-at-same}
 use Rattle.memory.proofs.Steps.{was-ok, done-ran, turn, called}
 
@@ -29,11 +29,11 @@ module _ (w w′ : List ℕ) (long : length w′ ≡ length w) (rest : drop (mem
   behind i = ap (λ l. getD w′ (memo-size l + i) 0) long ∙ drop-at-same (memo-size (length w)) w w′ rest i
 
   pub index-behind : {node : ℕ → List ℕ} {n : ℕ} → Indexed node w n → Indexed node w′ n
-  index-behind {node} {n} h l = let c = h (subst (λ n. links-at n + 4096 ≤ n) long l) in record {
+  index-behind {node} {n} h l = let c = h (subst (λ n. links-at n + part-size ≤ n) long l) in record {
     heads = λ b i. behind b ∙ c .heads b i;
     links = λ i j.
-        ap (λ k. getD w′ k 0) (add-assoc (memo-size (length w′)) 4096 i) ∙ behind (4096 + i)
-        ∙ ap (λ k. getD w k 0) (sym (add-assoc (memo-size (length w)) 4096 i)) ∙ c .links i j;
+        ap (λ k. getD w′ k 0) (add-assoc (memo-size (length w′)) part-size i) ∙ behind (part-size + i)
+        ∙ ap (λ k. getD w k 0) (sym (add-assoc (memo-size (length w)) part-size i)) ∙ c .links i j;
   }
 
   pub word-behind : (J : Kind) (i : ℕ) → getD w′ (words-at J (length w′) + i) 0 ≡ getD w (words-at J (length w) + i) 0

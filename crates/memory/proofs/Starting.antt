@@ -7,20 +7,11 @@ use lib.ListN.{length, getD, take, drop, replicate}
 use Rattle.model.specs.Store.{Kind, arity, Store, nodes, handle-of}
 use Rattle.model.specs.WellFormed.{WellFormed}
 use Rattle.memory.specs.Rows.{row, plain}
-use Rattle.memory.specs.Finding.{Emptied}
+use Rattle.memory.specs.Finding.{IndexApart, Emptied}
 use Rattle.memory.specs.Working.{memo-size, words-at, last-in, Indexed, Known, Entry, Right, index-size}
 use Rattle.memory.proofs.Known.{known-nothing}
 use Rattle.memory.proofs.Parts.{words-same, entry-same}
 use Rattle.memory.proofs.Rows.{row-at}
-
--- w′ is w but for its index
-pub record IndexApart (w w′ : List ℕ) : Type 0 where
-  pub memo : take (memo-size (length w)) w′ ≡ take (memo-size (length w)) w
-  pub words : drop (memo-size (length w) + index-size) w′ ≡ drop (memo-size (length w) + index-size) w
-  pub work-length : length w′ ≡ length w
-
-pub emptied-apart : {w w′ : List ℕ} → Emptied w w′ → IndexApart w w′
-emptied-apart E = record { memo = E .memo; words = E .words; work-length = E .work-length }
 
 -- a store that is the same with other nodes taken for its own, which the index is then of
 pub right-indexed : {J K : Kind} {B C : Store} {w w′ m m′ : List ℕ} {n n′ : ℕ} → plain J C m′ n′ ≡ plain K B m n
@@ -42,7 +33,7 @@ right-indexed {J} {K} {B} {C} {w} {w′} {m} {m′} {n} {n′} e R X E = record 
 -- with none of the other nodes yet
 pub right-turned : {J K : Kind} {B C : Store} {w w′ m m′ : List ℕ} {n : ℕ} → plain J C m′ 0 ≡ plain K B m n
     → Right K B w m n → Emptied w w′ → Right J C w′ m′ 0
-right-turned {J} {m′ = m′} e R E = right-indexed e R (E .index (row (arity J) m′)) (emptied-apart E)
+right-turned {J} {m′ = m′} e R E = right-indexed e R (E .index (row (arity J) m′)) (E .apart)
 
 zero-at : (n i : ℕ) → _≡_ {A = ℕ} (getD (replicate n 0) i 0) 0
 zero-at zero i = refl

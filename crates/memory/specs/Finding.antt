@@ -21,16 +21,18 @@ Search x m w n r = (good : Bool) → (good ≡ true → Indexed (row (length x) 
 abbrev pub SearchAt : List ℕ → List ℕ → List ℕ → ℕ → ℕ → ℕ → Type 0
 SearchAt x m w at n r = (good : Bool) → at ≡ memo-size (length w) → (good ≡ true → Indexed (row (length x) m) w n) → Finds (row (length x) m) n x good r
 
--- node n joins an index that is right; only the index changes
-pub record Entered (node : ℕ → List ℕ) (n : ℕ) (w w′ : List ℕ) : Type 0 where
-  pub index : Indexed node w n → Indexed node w′ (n + 1)
+-- w′ is w but for its index
+pub record IndexApart (w w′ : List ℕ) : Type 0 where
   pub memo : take (memo-size (length w)) w′ ≡ take (memo-size (length w)) w
   pub words : drop (memo-size (length w) + index-size) w′ ≡ drop (memo-size (length w) + index-size) w
   pub work-length : length w′ ≡ length w
 
--- the index is empty, and nothing else changed
+-- node n joins an index that is right
+pub record Entered (node : ℕ → List ℕ) (n : ℕ) (w w′ : List ℕ) : Type 0 where
+  pub index : Indexed node w n → Indexed node w′ (n + 1)
+  pub apart : IndexApart w w′
+
+-- the index is empty
 pub record Emptied (w w′ : List ℕ) : Type 0 where
   pub index : (node : ℕ → List ℕ) → Indexed node w′ 0
-  pub memo : take (memo-size (length w)) w′ ≡ take (memo-size (length w)) w
-  pub words : drop (memo-size (length w) + index-size) w′ ≡ drop (memo-size (length w) + index-size) w
-  pub work-length : length w′ ≡ length w
+  pub apart : IndexApart w w′

@@ -28,13 +28,17 @@ pub record Noted (K : Kind) (x : List ℕ) (n : ℕ) (w w′ : List ℕ) : Type 
 abbrev pub WordsOf : Kind → List ℕ → Store → Type 0
 WordsOf K ws S = (i : ℕ) → i < length ws → i < length (nodes K S) → Known K S (handle-of K 0 i) (getD ws i 0)
 
--- r says nothing wrong of h
+-- r says nothing wrong of h, in stores whose words have W
+abbrev pub KnownBy : (Kind → Store → Type 0) → ℕ → ℕ → ℕ → Type 0
+KnownBy W c h r = (K : Kind) (k : ℕ) (S : Store) → c ≡ arity K → WellFormed k S → W K S → Known K S h r
+
+-- the same, where ws are the words of one kind's nodes
 abbrev pub ReadsWord : List ℕ → ℕ → ℕ → ℕ → Type 0
-ReadsWord ws c h r = (K : Kind) (k : ℕ) (S : Store) → c ≡ arity K → WellFormed k S → WordsOf K ws S → Known K S h r
+ReadsWord ws c h r = KnownBy (λ K S. WordsOf K ws S) c h r
 
 -- the same, from the working memory
 abbrev pub KnownWord : List ℕ → ℕ → ℕ → ℕ → Type 0
-KnownWord w c h r = (K : Kind) (k : ℕ) (S : Store) → c ≡ arity K → WellFormed k S → Words w S → Known K S h r
+KnownWord w c h r = KnownBy (λ K S. Words w S) c h r
 
 abbrev pub properties : Bool → Bool → Bool → ℕ → Properties
 properties e u i l = record { empty = e; universal = u; identity = i; level = l }

@@ -11,7 +11,7 @@ use Rattle.model.specs.Store.{Kind, set, rel, arity, Store, nodes, handle-of, s
 use Rattle.model.specs.Programs.{Prog, mk, ran, run}
 use Rattle.model.specs.WellFormed.{Held, WellFormed}
 use Rattle.model.specs.Safety.{Within, Safe}
-use Rattle.memory.specs.Rows.{row, rows, places, plain}
+use Rattle.memory.specs.Rows.{row, rows, places, plain, most-places}
 use Rattle.memory.specs.Working.{memo-size, Has, Words, tag, Remembers, Right}
 use Rattle.memory.specs.Memo.{memo-program}
 use Rattle.memory.specs.declared.RunState.{RunState}
@@ -109,7 +109,7 @@ pub record Joins (K : Kind) (y : List ℕ) (s : RunState) (m m′ w w′ : List 
 
 -- the same for every node y, as `mk` is given it, that is stored as x
 pub record JoinsAs (x : List ℕ) (s : RunState) (m m′ w w′ : List ℕ) (r : RunState) : Type 0 where
-  pub small : r .h < 4096
+  pub small : r .h < most-places
   pub node : (K : Kind) (y : List ℕ) → length x ≡ arity K → x ≡ stored K y → Joins K y s m m′ w w′ r
 
 -- a look: x is what the children of h are, where it has a node

@@ -9,7 +9,7 @@ use Rattle.model.specs.Store.{Kind, set, rel, arity, Store, nodes, pick, handle
 use Rattle.model.specs.Programs.{isEmpty, isUniversal, isIdentity, ending, agrees}
 use Rattle.model.specs.WellFormed.{Held, WellFormed}
 use Rattle.model.specs.Safety.{Settled}
-use Rattle.memory.specs.Rows.{row, plain}
+use Rattle.memory.specs.Rows.{row, plain, most-places}
 use Rattle.memory.specs.Memo.{memo-program}
 use Rattle.memory.specs.declared.Properties.{Properties}
 
@@ -59,12 +59,12 @@ last-in node b (suc n) = pick (eqb (bucket (node n)) b) (suc n) (last-in node b 
 
 -- the head of a bucket is its last node; the link of a node is the last before it in its bucket
 pub record Chained (node : ℕ → List ℕ) (w : List ℕ) (n : ℕ) : Type 0 where
-  pub heads : (b : ℕ) → b < 4096 → getD w (memo-size (length w) + b) 0 ≡ last-in node b n
+  pub heads : (b : ℕ) → b < part-size → getD w (memo-size (length w) + b) 0 ≡ last-in node b n
   pub links : (i : ℕ) → i < n → getD w (links-at (length w) + i) 0 ≡ last-in node (bucket (node i)) i
 
 -- the index is right, where there is room for one
 abbrev pub Indexed : (ℕ → List ℕ) → List ℕ → ℕ → Type 0
-Indexed node w n = links-at (length w) + 4096 ≤ length w → Chained node w n
+Indexed node w n = links-at (length w) + part-size ≤ length w → Chained node w n
 
 -- PROPERTY WORDS: 0 says nothing, any other has a bit for each property, and the level above them
 abbrev pub bit-at : ℕ → ℕ → Bool
@@ -86,7 +86,7 @@ Known K S h v = 0 < v → (l : ℕ) → Held K S l h → Has K S l h (properties
 
 -- no word says anything wrong of its node
 abbrev pub Words : List ℕ → Store → Type 0
-Words w S = (J : Kind) (i : ℕ) → i < 4096 → i < length (nodes J S) → Known J S (handle-of J 0 i) (getD w (words-at J (length w) + i) 0)
+Words w S = (J : Kind) (i : ℕ) → i < most-places → i < length (nodes J S) → Known J S (handle-of J 0 i) (getD w (words-at J (length w) + i) 0)
 
 -- MEMO: an entry is the operation's number and its level in a tag, the operands and the result; tag 0 is no entry.
 -- An entry's program is settled with that result.
@@ -107,4 +107,4 @@ pub record Right (K : Kind) (B : Store) (w m : List ℕ) (n : ℕ) : Type 0 wher
   pub index : Indexed (row (arity K) m) w n
   pub words : Words w (plain K B m n)
   -- no word is there past a count yet
-  pub unset : (J : Kind) (i : ℕ) → length (nodes J (plain K B m n)) ≤ i → i < 4096 → getD w (words-at J (length w) + i) 0 ≡ 0
+  pub unset : (J : Kind) (i : ℕ) → length (nodes J (plain K B m n)) ≤ i → i < most-places → getD w (words-at J (length w) + i) 0 ≡ 0

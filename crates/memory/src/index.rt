@@ -4,8 +4,8 @@ ghost use mathlib.Core.List.{List};
 ghost use mathlib.Core.Bool.{Bool, true, false};
 ghost use Prim.Native.Nat.{ℕ, _+_, _*_, _%_, _<_, _≤_};
 ghost use lib.ListN.{length};
-ghost use Rattle.memory.specs.Rows.{row};
-ghost use Rattle.memory.specs.Working.{index-size, memo-size, bucket};
+ghost use Rattle.memory.specs.Rows.{row, most-places};
+ghost use Rattle.memory.specs.Working.{index-size, memo-size, bucket, part-size};
 ghost use Rattle.memory.specs.Finding.{Finds, Search, SearchAt, Entered, Emptied};
 
 // THE PARTS of the working memory after the memo, specs/Working: the bucket heads, the links, the words of relations and those of sets, so many numbers each.
@@ -46,7 +46,7 @@ pub fn mix(h: u64, a: u32) -> u64
 
 // The bucket of a node.
 pub fn hash(x: &[u32]) -> usize
-    ensures { λ r. ⌜ (r ≡ bucket (now (x .entry))) × (r < 4096) ⌝ }
+    ensures { λ r. ⌜ (r ≡ bucket (now (x .entry))) × (r < part-size) ⌝ }
 {
     let mut h: u64 = 0;
     let mut j = 0;
@@ -104,7 +104,7 @@ fn scan(nodes: &[u32], n: usize, x: &[u32]) -> usize
 
 // The search along the chain of the node's bucket; it ends whatever the index holds.
 fn chase(nodes: &[u32], work: &[u32], at: usize, n: usize, x: &[u32]) -> usize
-    requires { ⌜ (length (now x) * n ≤ length (now nodes)) × (at + index-size ≤ length (now work)) × (n ≤ 4096) ⌝ }
+    requires { ⌜ (length (now x) * n ≤ length (now nodes)) × (at + index-size ≤ length (now work)) × (n ≤ most-places) ⌝ }
     ensures { λ r. ⌜ SearchAt (now (x .entry)) (now (nodes .entry)) (now (work .entry)) at n r ⌝ }
 {
     let b = hash(x);
@@ -128,7 +128,7 @@ fn chase(nodes: &[u32], work: &[u32], at: usize, n: usize, x: &[u32]) -> usize
 
 // A place of the first n where x is, or n; with an index of these nodes or none, n only where x is not among them.
 pub fn find(nodes: &[u32], work: &[u32], n: usize, x: &[u32]) -> usize
-    requires { ⌜ (length (now x) * n ≤ length (now nodes)) × (n ≤ 4096) ⌝ }
+    requires { ⌜ (length (now x) * n ≤ length (now nodes)) × (n ≤ most-places) ⌝ }
     ensures { λ r. ⌜ Search (now (x .entry)) (now (nodes .entry)) (now (work .entry)) n r ⌝ }
 {
     let at = memo_size(work.len());
@@ -140,7 +140,7 @@ pub fn find(nodes: &[u32], work: &[u32], n: usize, x: &[u32]) -> usize
 
 // Node n, of bucket b, joins the index that begins at this place.
 pub fn link(work: &mut [u32], at: usize, n: usize, b: usize)
-    requires { ⌜ (at + index-size ≤ length (now work)) × (n < 4096) × (b < 4096) ⌝ }
+    requires { ⌜ (at + index-size ≤ length (now work)) × (n < most-places) × (b < part-size) ⌝ }
     ensures { λ _. ⌜ ((node : ℕ → List ℕ) → at ≡ memo-size (length (now (work .entry))) → b ≡ bucket (node n)
         → Entered node n (now (work .entry)) (now (work .exit))) ⌝ }
 {
@@ -151,7 +151,7 @@ pub fn link(work: &mut [u32], at: usize, n: usize, b: usize)
 
 // Node n, of c numbers, joins the index.
 pub fn enter(nodes: &[u32], work: &mut [u32], c: usize, n: usize)
-    requires { ⌜ (c * n + c ≤ length (now nodes)) × (n < 4096) ⌝ }
+    requires { ⌜ (c * n + c ≤ length (now nodes)) × (n < most-places) ⌝ }
     ensures { λ _. ⌜ Entered (row c (now (nodes .entry))) n (now (work .entry)) (now (work .exit)) ⌝ }
 {
     let at = memo_size(work.len());

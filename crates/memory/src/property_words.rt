@@ -8,8 +8,8 @@ ghost use lib.Dec.{eqb};
 ghost use Rattle.model.specs.Store.{Kind, set, rel, arity, Store, pick, index, get, signed};
 ghost use Rattle.model.specs.WellFormed.{Held, WellFormed};
 ghost use Rattle.model.specs.Safety.{Within};
-ghost use Rattle.memory.specs.Rows.{places, plain};
-ghost use Rattle.memory.specs.Working.{words-at, properties-in, Known, Words};
+ghost use Rattle.memory.specs.Rows.{places, plain, most-places};
+ghost use Rattle.memory.specs.Working.{words-at, properties-in, Known, Words, part-size};
 ghost use Rattle.memory.specs.Performing.{KnowsProperties};
 ghost use Rattle.memory.specs.Noting.{Written, Noted, WordsOf, ReadsWord, KnownWord, properties, in-both, Gathers, ChildOf, ChildrenAre};
 ghost use Rattle.memory.specs.Noting.{WalksTo, IdentityAt, LevelIs};
@@ -58,7 +58,7 @@ fn words_start(len: usize, c: usize) -> usize
 // Where the words that begin at s end.
 fn words_end(len: usize, s: usize) -> usize
     requires { ⌜ s ≤ len ⌝ }
-    ensures { λ r. ⌜ (s ≤ r) × (r ≤ len) × (r ≤ s + 4096) ⌝ }
+    ensures { λ r. ⌜ (s ≤ r) × (r ≤ len) × (r ≤ s + part-size) ⌝ }
 {
     if len - s < crate::index::PART {
         len
@@ -228,7 +228,7 @@ pub fn gather(work: &[u32], x: &[u32]) -> u32
 
 // Writes the word of the node of c numbers at place n.
 pub fn write(work: &mut [u32], c: usize, n: usize, v: u32)
-    requires { ⌜ n < 4096 ⌝ }
+    requires { ⌜ n < most-places ⌝ }
     ensures { λ _. ⌜ ((K : Kind) → c ≡ arity K → Written K n v (now (work .entry)) (now (work .exit))) ⌝ }
 {
     let s = words_start(work.len(), c);
@@ -240,7 +240,7 @@ pub fn write(work: &mut [u32], c: usize, n: usize, v: u32)
 
 // Notes the word of the node x at place n.
 pub fn note(work: &mut [u32], x: &[u32], n: usize)
-    requires { ⌜ n < 4096 ⌝ }
+    requires { ⌜ n < most-places ⌝ }
     ensures { λ _. ⌜ ((K : Kind) → length (now (x .entry)) ≡ arity K → Noted K (now (x .entry)) n (now (work .entry)) (now (work .exit))) ⌝ }
 {
     let v = gather(work, x);

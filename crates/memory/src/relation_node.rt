@@ -6,15 +6,15 @@ ghost use Prim.Native.Nat.{_+_, _*_, _<_, _≤_};
 ghost use lib.ListN.{length};
 ghost use lib.Seq.{paste};
 ghost use Rattle.model.specs.Store.{rel};
-ghost use Rattle.memory.specs.Rows.{row};
-ghost use Rattle.memory.specs.Working.{index-size, bucket};
+ghost use Rattle.memory.specs.Rows.{row, most-places};
+ghost use Rattle.memory.specs.Working.{index-size, bucket, part-size};
 ghost use Rattle.memory.specs.Finding.{SearchAt};
 ghost use Rattle.memory.specs.Noting.{Noted};
 ghost use Rattle.memory.specs.Performing.{JoinsAs};
 
 // The bucket of a node.
 fn hash(x00: u32, x01: u32, x10: u32, x11: u32) -> usize
-    ensures { λ r. ⌜ (r ≡ bucket (x00 ∷ x01 ∷ x10 ∷ x11 ∷ [])) × (r < 4096) ⌝ }
+    ensures { λ r. ⌜ (r ≡ bucket (x00 ∷ x01 ∷ x10 ∷ x11 ∷ [])) × (r < part-size) ⌝ }
 {
     let h0 = crate::index::mix(0, x00);
     let h1 = crate::index::mix(h0, x01);
@@ -54,7 +54,8 @@ fn chase(
     x10: u32,
     x11: u32,
 ) -> usize
-    requires { ⌜ (4 * n ≤ length (now nodes)) × (at + index-size ≤ length (now work)) × (n ≤ 4096) × (b < 4096) × (b ≡ bucket (x00 ∷ x01 ∷ x10 ∷ x11 ∷ [])) ⌝ }
+    requires { ⌜ (4 * n ≤ length (now nodes)) × (at + index-size ≤ length (now work)) × (n ≤ most-places) × (b < part-size)
+        × (b ≡ bucket (x00 ∷ x01 ∷ x10 ∷ x11 ∷ [])) ⌝ }
     ensures { λ r. ⌜ SearchAt (x00 ∷ x01 ∷ x10 ∷ x11 ∷ []) (now (nodes .entry)) (now (work .entry)) at n r ⌝ }
 {
     let mut v = crate::as_index(work[at + b]);
@@ -89,7 +90,7 @@ fn put(nodes: &mut [u32], n: usize, x00: u32, x01: u32, x10: u32, x11: u32)
 
 // Notes the word of a node with these numbers at place n.
 fn note(work: &mut [u32], n: usize, x00: u32, x01: u32, x10: u32, x11: u32)
-    requires { ⌜ n < 4096 ⌝ }
+    requires { ⌜ n < most-places ⌝ }
     ensures { λ _. ⌜ Noted rel (x00 ∷ x01 ∷ x10 ∷ x11 ∷ []) n (now (work .entry)) (now (work .exit)) ⌝ }
 {
     let v = crate::property_words::gather_relation(work, x00, x01, x10, x11);

@@ -24,7 +24,7 @@ use Rattle.model.proofs.Settle.{run-ext}
 use Rattle.model.proofs.Star.{identity-does}
 use Rattle.memory.specs.Performing.{run-state, ends, Performs, Runs}
 use Rattle.memory.specs.Finding.{Emptied}
-use Rattle.memory.specs.Rows.{rows, plain}
+use Rattle.memory.specs.Rows.{rows, plain, most-places}
 use Rattle.memory.specs.Working.{Right}
 use Rattle.memory.specs.declared.RunState.{RunState}
 use Rattle.memory.proofs.Rows.{rows-length}
@@ -110,7 +110,7 @@ module _ (k : ℕ) (M : Memories) (w : List ℕ) (G : Begun k M w) where
   sets-safe = subst (Safe (set-constants k)) (sym (G .none)) (sets-do k .safe)
 
   module _ (b w₁ : List ℕ) (s : RunState) (P : Performs set (set-constants k) (run-state true 0 0) (part-of set M) b w w₁ s) where
-    pub fill-within-sets : (0 ≤ s .n) × (s .n ≤ 4096)
+    pub fill-within-sets : (0 ≤ s .n) × (s .n ≤ most-places)
         × (head set + arity set * s .n ≤ length (putMid (head set) (length (M .sets) - head set) (M .sets) b))
     fill-within-sets = within-memory set M w ready-sets 0 (none set) tt (set-constants k) (set-constants k) b w₁ s refl sets-safe P
 
@@ -182,7 +182,7 @@ module _ (k : ℕ) (M : Memories) (w : List ℕ) (G : Begun k M w) where
         relations-safe = subst (Safe (relation-constants k)) (sym read-first) (relations-do formed-first .safe)
 
         module _ (d w₃ : List ℕ) (r : RunState) (Q : Performs rel (relation-constants k) (run-state true 0 0) (part-of rel M₁) d w₂ w₃ r) where
-          pub fill-within-relations : (0 ≤ r .n) × (r .n ≤ 4096)
+          pub fill-within-relations : (0 ≤ r .n) × (r .n ≤ most-places)
               × (head rel + arity rel * r .n ≤ length (putMid (head rel) (length (M .relations) - head rel) (M .relations) d))
           fill-within-relations =
               within-memory rel M₁ w₂ ready-relations 0 none-first tt (relation-constants k) (relation-constants k) d w₃ r refl relations-safe Q

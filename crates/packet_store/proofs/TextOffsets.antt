@@ -22,7 +22,7 @@ use Rattle.policy_text.specs.declared.Reading.{Reading}
 use Rattle.policy_text.specs.declared.Reading.the-variants.{Policy, NotPolicy, TooDeep, NoField, NotPredicate}
 use Rattle.policy_text.proofs.XLaws.{x-lawful, x-bounds}
 use Rattle.policy_text.proofs.Says.{says}
-use Rattle.policies.specs.Outcome.{refused, of-reading, short?, text-verdict, policy-step}
+use Rattle.policies.specs.Outcome.{refused, of-reading, short?, text-verdict, policy-step, most-bytes}
 use Rattle.policies.specs.declared.PolicyAnswer.{PolicyAnswer}
 use Rattle.packet_store.specs.PackedPolicy.{offset}
 
@@ -40,35 +40,35 @@ reading-inside k t (TooDeep i) s = let h = s .inside in omega arith
 reading-inside k t (NoField i) s = let h = s .inside in omega arith
 reading-inside k t (NotPredicate i) s = let h = s .inside in omega arith
 
-more : (n : ℕ) (v : Verdict PolicyAnswer) → n ≤ 4096 → OffsetBy n v → OffsetBy 4096 v
+more : (n : ℕ) (v : Verdict PolicyAnswer) → n ≤ most-bytes → OffsetBy n v → OffsetBy most-bytes v
 more n (gives a) h o = omega arith
 more n (runs p f) h o = λ R. let i = o R in omega arith
 
-verdict-short : (k : ℕ) (t : List ℕ) (S : Nodes) → OffsetBy 4096 (text-verdict t k S)
+verdict-short : (k : ℕ) (t : List ℕ) (S : Nodes) → OffsetBy most-bytes (text-verdict t k S)
 unfolding text-verdict
-verdict-short k t S = by-test (λ b. OffsetBy 4096 (pick b (of-reading k t (reading x-forms k t)) (gives (refused TooLong)))) (short? t)
-    (λ s. more (length t) (of-reading k t (reading x-forms k t)) (leb→le (length t) 4096 (subst T (sym s) tt))
+verdict-short k t S = by-test (λ b. OffsetBy most-bytes (pick b (of-reading k t (reading x-forms k t)) (gives (refused TooLong)))) (short? t)
+    (λ s. more (length t) (of-reading k t (reading x-forms k t)) (leb→le (length t) most-bytes (subst T (sym s) tt))
     (reading-inside k t (reading x-forms k t) (says x-lawful k (x-bounds k) t)))
     (λ s. omega arith)
 
-finishes-offset : {X : Type 0} (m n : ℕ) (S : Nodes) (x : X) (put : Nodes → X) (v : Verdict PolicyAnswer) → OffsetBy 4096 v
-    → offset (finishes (refused UsedUp) m n v S x put .answer) ≤ 4096
+finishes-offset : {X : Type 0} (m n : ℕ) (S : Nodes) (x : X) (put : Nodes → X) (v : Verdict PolicyAnswer) → OffsetBy most-bytes v
+    → offset (finishes (refused UsedUp) m n v S x put .answer) ≤ most-bytes
 unfolding finishes
 finishes-offset m n S x put (gives a) o = o
 finishes-offset m n S x put (runs p f) o =
-    by-test (λ b. offset (pick b (outcome (f (run p S)) (put (run p S .store))) (outcome (refused UsedUp) x) .answer) ≤ 4096)
+    by-test (λ b. offset (pick b (outcome (f (run p S)) (put (run p S .store))) (outcome (refused UsedUp) x) .answer) ≤ most-bytes)
     (fits-places m n (run p S .store)) (λ _. o (run p S)) (λ _. omega arith)
 
 module _ (t : List ℕ) (M : Memories) where
-  step-short : offset (policy-step t M .answer) ≤ 4096
+  step-short : offset (policy-step t M .answer) ≤ most-bytes
   unfolding policy-step on-store guard
   step-short = by-test (λ b. offset (finishes (refused UsedUp) (set-places M) (rel-places M)
       (unless-declined refused (guard NotStore b (Level (fields M))) (λ k. text-verdict t k (decode M))) (decode M) M (λ S. encode (fields M) S M) .answer)
-      ≤ 4096)
+      ≤ most-bytes)
       (store? M)
       (λ _. finishes-offset (set-places M) (rel-places M) (decode M) M (λ S. encode (fields M) S M) _ (verdict-short (fields M) t (decode M)))
       (λ _. finishes-offset (set-places M) (rel-places M) (decode M) M (λ S. encode (fields M) S M) (gives (refused NotStore)) (omega arith))
 
   -- THE CLAIM, of what a policy call answers
-  pub short-offset : (M′ : Memories) (a : PolicyAnswer) → outcome a M′ ≡ policy-step t M → offset a ≤ 4096
-  short-offset M′ a e = subst (λ u. offset (u .answer) ≤ 4096) (sym e) step-short
+  pub short-offset : (M′ : Memories) (a : PolicyAnswer) → outcome a M′ ≡ policy-step t M → offset a ≤ most-bytes
+  short-offset M′ a e = subst (λ u. offset (u .answer) ≤ most-bytes) (sym e) step-short

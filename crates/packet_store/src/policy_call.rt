@@ -1,6 +1,7 @@
 // The call on a policy text, under its C name.
 ghost use mathlib.Core.Path.{_≡_};
 ghost use Prim.Native.Nat.{_≤_};
+ghost use Rattle.policies.specs.Outcome.{most-bytes};
 ghost use Rattle.store_check.specs.Memory.{memories};
 ghost use Rattle.policies.specs.declared.PolicyAnswer.the-variants.{Declined};
 ghost use Rattle.packet_store.specs.PackedPolicy.{offset, packed-policy, AnswersPolicy};
@@ -9,7 +10,7 @@ use policies::PolicyRefusal;
 
 // The number of a refusal in the high half, its offset in the low half.
 fn pack_refusal(r: PolicyRefusal) -> u64
-    requires { ⌜ offset (Declined r) ≤ 4096 ⌝ }
+    requires { ⌜ offset (Declined r) ≤ most-bytes ⌝ }
     ensures { λ n. ⌜ n ≡ packed-policy (Declined r) ⌝ }
 {
     match r {
@@ -20,7 +21,7 @@ fn pack_refusal(r: PolicyRefusal) -> u64
 
 // The handle, or the refusal.
 fn pack(a: PolicyAnswer) -> u64
-    requires { ⌜ offset a ≤ 4096 ⌝ }
+    requires { ⌜ offset a ≤ most-bytes ⌝ }
     ensures { λ n. ⌜ n ≡ packed-policy a ⌝ }
 {
     match a {

@@ -5,6 +5,7 @@ use mathlib.Core.List.{List}
 use Prim.Native.Nat.{ℕ, _+_, _-_, _*_, _≤_}
 use lib.ListN.{length}
 use borrow.Rule.Slice.PartMut.{putMid}
+use Rattle.memory.specs.Rows.{most-places}
 use Rattle.model.specs.Policies.{policy-program}
 use Rattle.model.specs.Programs.{Prog, Ran, run}
 use Rattle.model.specs.Safety.{Safe}
@@ -77,7 +78,7 @@ module _ (t : List ℕ) (M : Memories) (w : List ℕ) (Y : CheckedStore rel M w)
   safe : Safe p (decode M)
   safe = policy-does (tree x-forms t) (tree-keeps x-lawful (fields M) (x-bounds (fields M)) t e .1) (Y .store .formed) .safe
 
-  pub built-within : (n ≤ r .n) × (r .n ≤ 4096)
+  pub built-within : (n ≤ r .n) × (r .n ≤ most-places)
       × (head rel + arity rel * r .n ≤ length (putMid (head rel) (length (M .relations) - head rel) (M .relations) b))
   built-within = within-memory rel M w Y n en tt p _ b w′ r (ap (λ k. policy-program k (tree x-forms t)) ek) safe performs
 

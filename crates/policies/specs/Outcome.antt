@@ -38,8 +38,11 @@ of-reading k t (read.NoField i) = gives (Declined (At NoField i))
 of-reading k t (read.NotPredicate i) = gives (Declined (At NotPredicate i))
 
 -- 01: "A policy is at most 4,096 bytes"
+abbrev pub most-bytes : ℕ
+most-bytes = 4096
+
 abbrev pub short? : List ℕ → Bool
-short? t = leb (length t) 4096
+short? t = leb (length t) most-bytes
 
 -- 01: "Policy: 1; 10; 7 .. or 9 ..; 5 ..; 8 ..; 6", from 10 on and up to 8
 unfoldable pub text-verdict : List ℕ → ℕ → Nodes → Verdict PolicyAnswer

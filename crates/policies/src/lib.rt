@@ -13,6 +13,9 @@ ghost use Rattle.policies.specs.Answers.{fault-number};
 ghost use Rattle.policies.specs.Outcome.{policy-step, short?};
 use store_check::head::*;
 
+// The most bytes of a text.
+const MOST_BYTES: usize = 4096;
+
 // What is wrong at a place in a text.
 pub enum Fault {
     NotPolicy,
@@ -79,7 +82,7 @@ fn run_checked(relations: &mut [u32], sets: &[u32], work: &mut [u32], text: &[u8
     ensures { λ r. ⌜ outcome r (memories (now (relations .exit)) (now (sets .entry)))
         ≡ policy-step (now (text .entry)) (memories (now (relations .entry)) (now (sets .entry))) ⌝ }
 {
-    if text.len() > 4096 {
+    if text.len() > MOST_BYTES {
         return PolicyAnswer::Declined(PolicyRefusal::Store(call_rules::Refusal::TooLong));
     }
     let read = policy_text::read(text, relations[FIELDS]);

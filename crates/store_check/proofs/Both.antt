@@ -101,7 +101,7 @@ pub both-checked : {c n c′ n′ k : ℕ} {m m′ w w₁ w₂ w₃ : List ℕ} 
 both-checked {c} {n} {k = k} {m = m} {m′ = m′} {w = w} {w₂ = w₂} A E I = record {
   right = λ K a b p q z. I .right (other K) (plain K blank m n) b q (begun K a p z);
   verdict = λ K a b p q z. I .verdict (other K) (plain K blank m n) b q (begun K a p z);
-  work-length = I .work-length ∙ E .work-length ∙ A .work-length;
+  work-length = I .work-length ∙ E .apart .work-length ∙ A .work-length;
 }
   where
     begun : (K : Kind) → c ≡ arity K → n ≤ places c m → w ≡ replicate (length w) 0 → Start k (other K) (plain K blank m n) m′ w₂

@@ -5,10 +5,10 @@ use Prim.Native.Nat.{ℕ, _+_}
 use lib.ListN.{take, drop}
 use Rattle.model.specs.Store.{Kind, set, rel, Store}
 use Rattle.memory.specs.Performing.{other}
-use Rattle.memory.specs.Finding.{Emptied, Entered}
+use Rattle.memory.specs.Finding.{IndexApart, Emptied, Entered}
 use Rattle.memory.specs.Rows.{row, plain}
 use Rattle.memory.specs.Working.{memo-size, Indexed, index-size}
-use Rattle.memory.proofs.Starting.{IndexApart, emptied-apart, right-indexed}
+use Rattle.memory.proofs.Starting.{right-indexed}
 use Rattle.store_check.specs.Reindexing.{Reindexed}
 
 -- all but the index stays
@@ -30,7 +30,7 @@ entering-starts node E = record { index = E .index node; apart = record { memo =
 pub entering-next : {node : ℕ → List ℕ} {w₀ w w′ : List ℕ} {i : ℕ} → Entering node w₀ w i → Entered node i w w′ → Entering node w₀ w′ (i + 1)
 entering-next A E = record {
   index = E .index (A .index);
-  apart = apart-then (A .apart) (record { memo = E .memo; words = E .words; work-length = E .work-length });
+  apart = apart-then (A .apart) (E .apart);
 }
 
 turned : (K : Kind) (B : Store) (m o : List ℕ) (n j : ℕ) → plain K (plain (other K) B o j) m n ≡ plain (other K) (plain K B m n) o j
@@ -45,4 +45,4 @@ entered-all {c} {n} {i} {m} {w} {w₀} {w′} E A q = record {
 }
   where
     all-else : IndexApart w w′
-    all-else = apart-then (emptied-apart E) (A .apart)
+    all-else = apart-then (E .apart) (A .apart)

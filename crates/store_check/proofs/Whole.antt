@@ -9,7 +9,7 @@ use lib.Seq.{take-all}
 use lib.Dec.{leb, T}
 use Rattle.model.specs.Store.{Kind, set, rel, arity}
 use Rattle.model.specs.WellFormed.{WellFormed}
-use Rattle.memory.specs.Rows.{places}
+use Rattle.memory.specs.Rows.{places, most-places}
 use Rattle.memory.proofs.Rows.{places-fit}
 use Rattle.memory.proofs.Steps.{false≢true}
 use Rattle.store_check.specs.StoreChecking.{Tests, BothChecked, HeadsFit, StoreChecked}
@@ -50,7 +50,8 @@ room-headed K m e p = room-says K m .iff .0 (true-T (sym e ∙ p)) .headed
 pub whole-part : (a : ℕ) (m : List ℕ) → take (length m - a) (drop a m) ≡ drop a m
 whole-part a m = take-all (length m - a) (drop a m) (omega (arith, length-drop a m))
 
-pub part-fits : (K : Kind) (m : List ℕ) (n : ℕ) → Room K m → n ≡ count K m → (arity K * n ≤ length (take (length m - head K) (drop (head K) m))) × (n ≤ 4096)
+pub part-fits : (K : Kind) (m : List ℕ) (n : ℕ) → Room K m → n ≡ count K m → (arity K * n ≤ length (take (length m - head K) (drop (head K) m)))
+    × (n ≤ most-places)
 part-fits K m n R e =
     let b : n ≤ places (arity K) (body K m) = subst (λ n. n ≤ places (arity K) (body K m)) (sym e) (R .within) in
     (subst (λ (l : List ℕ). arity K * n ≤ length l) (sym (whole-part (head K) m)) (places-fit (arity K) (body K m) n b), omega arith)

@@ -4,6 +4,7 @@ ghost use mathlib.Core.Bool.{Bool, true, false};
 ghost use mathlib.Core.List.{List};
 ghost use Prim.Native.Nat.{ℕ, _+_, _*_, _%_, _<_, _≤_};
 ghost use lib.ListN.{length, getD};
+ghost use Rattle.memory.specs.Rows.{most-places};
 ghost use Rattle.model.specs.Store.{Kind, arity, handle-of};
 ghost use Rattle.model.specs.WellFormed.{Even};
 ghost use Rattle.store_check.specs.Memory.{memories};
@@ -17,7 +18,7 @@ mod room;
 
 // The handle of the node at place i; a child has a lower one.
 fn handle_at(c: usize, i: usize) -> usize
-    requires { ⌜ i < 4096 ⌝ }
+    requires { ⌜ i < most-places ⌝ }
     ensures { λ r. ⌜ ((K : Kind) → c ≡ arity K → r ≡ handle-of K 0 i) ⌝ }
 {
     if c == 2 { 2 * (i + 1) } else { i + 2 }
@@ -25,7 +26,7 @@ fn handle_at(c: usize, i: usize) -> usize
 
 // Whether each child of node i is held earlier.
 fn children_earlier(nodes: &[u32], c: usize, i: usize) -> bool
-    requires { ⌜ (0 < c) × (c * i + c ≤ length (now nodes)) × (i < 4096) ⌝ }
+    requires { ⌜ (0 < c) × (c * i + c ≤ length (now nodes)) × (i < most-places) ⌝ }
     ensures { λ r. ⌜ ((K : Kind) → c ≡ arity K → Tests r (Earlier K (now (nodes .entry)) i)) ⌝ }
 {
     let s = c * i;
@@ -42,7 +43,7 @@ fn children_earlier(nodes: &[u32], c: usize, i: usize) -> bool
 
 // The level of node i, one above its children's, by walking down from each; 0 where they share none below k.
 fn level_walked(nodes: &[u32], c: usize, k: u32, i: usize) -> u32
-    requires { ⌜ (0 < c) × (c * i + c ≤ length (now nodes)) × (i < 4096) ⌝ }
+    requires { ⌜ (0 < c) × (c * i + c ≤ length (now nodes)) × (i < most-places) ⌝ }
     ensures { λ r. ⌜ LevelWalked (now (nodes .entry)) c k i r ⌝ }
 {
     let s = c * i;
@@ -62,7 +63,7 @@ fn level_walked(nodes: &[u32], c: usize, k: u32, i: usize) -> u32
 
 // The same, read in the node's word where that says something.
 fn node_level(nodes: &[u32], c: usize, k: u32, i: usize, word: u32) -> u32
-    requires { ⌜ (0 < c) × (c * i + c ≤ length (now nodes)) × (i < 4096) ⌝ }
+    requires { ⌜ (0 < c) × (c * i + c ≤ length (now nodes)) × (i < most-places) ⌝ }
     ensures { λ r. ⌜ NodeLevel (now (nodes .entry)) c k i word r ⌝ }
 {
     if word != 0 {
@@ -84,7 +85,7 @@ fn first_even(c: usize, x0: u32) -> bool
 
 // Whether node i, of this property word, may follow those before it.
 fn node_fits(nodes: &[u32], work: &[u32], c: usize, k: u32, i: usize, word: u32) -> bool
-    requires { ⌜ (0 < c) × (c * i + c ≤ length (now nodes)) × (i < 4096) ⌝ }
+    requires { ⌜ (0 < c) × (c * i + c ≤ length (now nodes)) × (i < most-places) ⌝ }
     ensures { λ r. ⌜ FitsNext (now (nodes .entry)) (now (work .entry)) c k i word r ⌝ }
 {
     let s = c * i;
@@ -108,7 +109,7 @@ fn node_fits(nodes: &[u32], work: &[u32], c: usize, k: u32, i: usize, word: u32)
 
 // Whether all n nodes keep the rules.
 fn nodes_fit(nodes: &[u32], work: &mut [u32], c: usize, k: u32, n: usize) -> bool
-    requires { ⌜ (0 < c) × (c * n ≤ length (now nodes)) × (n ≤ 4096) ⌝ }
+    requires { ⌜ (0 < c) × (c * n ≤ length (now nodes)) × (n ≤ most-places) ⌝ }
     ensures { λ r. ⌜ NodesChecked c n k (now (nodes .entry)) (now (work .entry)) (now (work .exit)) r ⌝ }
 {
     let mut i = 0;
@@ -137,7 +138,7 @@ fn both_fit(
     n2: usize,
     k: u32,
 ) -> bool
-    requires { ⌜ (0 < c1) × (c1 * n1 ≤ length (now first)) × (n1 ≤ 4096) × (0 < c2) × (c2 * n2 ≤ length (now second)) × (n2 ≤ 4096) ⌝ }
+    requires { ⌜ (0 < c1) × (c1 * n1 ≤ length (now first)) × (n1 ≤ most-places) × (0 < c2) × (c2 * n2 ≤ length (now second)) × (n2 ≤ most-places) ⌝ }
     ensures { λ r. ⌜ BothChecked c1 n1 c2 n2 k (now (first .entry)) (now (second .entry)) (now (work .entry)) (now (work .exit)) r ⌝ }
 {
     if !nodes_fit(first, work, c1, k, n1) {

@@ -27,7 +27,7 @@ use Rattle.theorems.specs.OneText.{TextRight}
 use Rattle.theorems.specs.Lists.{steps, AllContinue, ListRight, Matches, HandlesLast, after-new}
 use Rattle.theorems.specs.PlainStore.{Plain, plain-store, plain-policy-step}
 use Rattle.theorems.proofs.AllCalls.{policy-alike, any-right}
-use Rattle.theorems.proofs.Histories.{comes-to, made-answers, made-end, made-continues, left-parted, lent-before, lent-later, none-before}
+use Rattle.theorems.proofs.Histories.{is-any-step, made-answers, made-end, made-continues, left-parted, lent-before, lent-later, none-before}
 use Rattle.theorems.proofs.Lists.{lists-right}
 use Rattle.theorems.proofs.OneText.{text-right}
 use Rattle.theorems.proofs.PlainText.{plain-text}
@@ -56,7 +56,7 @@ module _ (H : History) where
   -- `new` as a step
   new-comes : outcome (answered (store.Handle (H .top))) M ≡ map-answer answered (step (new-store k) M₀)
   unfolding any-step
-  new-comes = (λ i. outcome (sym (H .accepted) i) M) ∙ comes-to (H .new .promised) ∙ ap (λ x. any-step x M₀) (H .is-new)
+  new-comes = (λ i. outcome (sym (H .accepted) i) M) ∙ is-any-step (H .new .promised) ∙ ap (λ x. any-step x M₀) (H .is-new)
 
   new-answer : step (new-store k) M₀ .answer ≡ store.Handle (H .top)
   new-answer = let e = ap (λ t. t .answer) new-comes in sym (cc e)
@@ -109,7 +109,7 @@ module _ (H : History) where
 
     it-comes : outcome (it .answer) (it .after) ≡ map-answer read (policy-step t (it .before))
     unfolding any-step
-    it-comes = comes-to (it .promised) ∙ ap (λ x. any-step x (it .before)) text
+    it-comes = is-any-step (it .promised) ∙ ap (λ x. any-step x (it .before)) text
 
     width-it : fields (it .before) ≡ k
     width-it = ap fields lent-it ∙ width-after before (lent-first before (it ∷ later) is) (none-first before (it ∷ later) is)

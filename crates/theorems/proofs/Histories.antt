@@ -15,10 +15,10 @@ use Rattle.theorems.specs.Histories.{Promised, of-call, of-policy, Made,
 use Rattle.theorems.specs.Lists.{in-turn, each-call, steps, AllContinue, Refused}
 
 -- ONE CALL: its promise, as a step
-pub comes-to : {x : AnyCall} {M M′ : Memories} {w w′ : List ℕ} {a : AnyAnswer} → Promised x M M′ w w′ a → outcome a M′ ≡ any-step x M
+pub is-any-step : {x : AnyCall} {M M′ : Memories} {w w′ : List ℕ} {a : AnyAnswer} → Promised x M M′ w w′ a → outcome a M′ ≡ any-step x M
 unfolding any-step
-comes-to (of-call p) = ap (map-answer answered) (p .0)
-comes-to (of-policy p) = ap (map-answer read) (p .0)
+is-any-step (of-call p) = ap (map-answer answered) (p .0)
+is-any-step (of-policy p) = ap (map-answer read) (p .0)
 
 -- a call that renews nothing continues the store that is there
 continues : {x : AnyCall} {M M′ : Memories} {w w′ : List ℕ} {b : AnyAnswer} → Promised x M M′ w w′ b
@@ -28,7 +28,7 @@ continues (of-policy p) n = tt
 
 -- the step of a call that was made on M
 made-step : (c : Made) (M : Memories) → c .before ≡ M → outcome (c .answer) (c .after) ≡ any-step (c .what) M
-made-step c M e = comes-to (c .promised) ∙ ap (any-step (c .what)) e
+made-step c M e = is-any-step (c .promised) ∙ ap (any-step (c .what)) e
 
 -- every call can be one that was made, on any memories and with any working memory: of its answer, its memories and zeros
 abbrev pub made : AnyCall → Memories → List ℕ → Made

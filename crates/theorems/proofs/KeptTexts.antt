@@ -21,7 +21,7 @@ use Rattle.policy_text.proofs.XLaws.{x-lawful, x-bounds}
 use Rattle.policy_text.proofs.Says.{keeps-rules, tree-is}
 use Rattle.theorems.specs.AllCalls.{WithinRules, policy-of}
 use Rattle.call_rules.proofs.Declining.{program-in, not-runs}
-use Rattle.policies.specs.Outcome.{refused, built-handle, of-reading, short?, text-verdict}
+use Rattle.policies.specs.Outcome.{refused, built-handle, of-reading, short?, text-verdict, most-bytes}
 use Rattle.policies.specs.declared.PolicyAnswer.{PolicyAnswer}
 use Rattle.policies.specs.declared.PolicyAnswer.the-variants.{Handle, Declined}
 use Rattle.policies.specs.declared.PolicyRefusal.{PolicyRefusal}
@@ -96,7 +96,7 @@ module _ (k : ℕ) (t : List ℕ) (S : Nodes) where
   builds-kept p f = by-test (λ b. short? t ≡ b → pick b (of-reading k t (reading x-forms k t)) (gives (refused TooLong)) ≡ runs p f → Kept p f) (short? t)
       (λ s u e. let q = read-builds p f (reading x-forms k t) refl e in
       let r = keeps-rules x-lawful k (x-bounds k) t .0 (q .0) in record {
-        keeps = record { short = leb→le (length t) 4096 (subst T (sym u) tt); rules = r };
+        keeps = record { short = leb→le (length t) most-bytes (subst T (sym u) tt); rules = r };
         program = ap (policy-program k) (sym (tree-is x-lawful t (r .policy) (r .follows))) ∙ ap program-in (q .1);
         made = λ R. sym (ap (λ v. made-in v R) (q .1));
       })
@@ -105,5 +105,5 @@ module _ (k : ℕ) (t : List ℕ) (S : Nodes) where
   pub kept-builds : (r : WithinRules k t) → text-verdict t k S ≡ runs (policy-program k (policy-of r)) built-handle
   unfolding text-verdict of-reading
   kept-builds r = let e = keeps-rules x-lawful k (x-bounds k) t .1 (r .rules) in
-      (λ i. pick (le-leb (length t) 4096 (r .short) i) (of-reading k t (e i)) (gives (refused TooLong)))
+      (λ i. pick (le-leb (length t) most-bytes (r .short) i) (of-reading k t (e i)) (gives (refused TooLong)))
       ∙ ap (λ x. runs (policy-program k x) built-handle) (tree-is x-lawful t (policy-of r) (r .rules .follows))

@@ -14,7 +14,7 @@ use Rattle.call_rules.specs.declared.Answer.{Answer}
 use Rattle.policy_text.specs.XForms.{x-forms}
 use Rattle.policy_text.specs.Answers.{KeepsRules}
 use Rattle.policy_text.specs.Grammar.{Sum}
-use Rattle.policies.specs.Outcome.{policy-step}
+use Rattle.policies.specs.Outcome.{policy-step, most-bytes}
 use Rattle.policies.specs.declared.PolicyAnswer.{PolicyAnswer}
 
 -- ALL 43 CALLS: those of `store`, and policies of any bytes
@@ -49,7 +49,7 @@ text-relates k t p q = (x : Policy) × Sum x-forms 32 t x × meaning k x p q
 -- 01: "A text keeps the rules when it has at most 4,096 bytes, follows the grammar, nests no atom deeper than 32, names only fields
 -- below k and has neither `:=` nor `*` in the operand of a `!`."
 pub record WithinRules (k : ℕ) (t : List ℕ) : Type 0 where
-  pub short : length t ≤ 4096
+  pub short : length t ≤ most-bytes
   pub rules : KeepsRules x-forms k t
 
 -- the policy that such a text is of

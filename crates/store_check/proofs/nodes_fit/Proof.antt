@@ -73,7 +73,7 @@ loop-again c =
     let a = entry .args in
     let o = at-loop .loop in (
       omega arith,
-      c .before .before .enter .ensures .work-length ∙ search needs,
+      c .before .before .enter .ensures .apart .work-length ∙ search needs,
       all-next (a .c) (a .n) (a .k) (o .i) (a .nodes .now) (a .work .now) (o .work) (o .inv .2) (after-gather .gather .result) (after-gather .gather .ensures)
           (after-node-fits .node-fits .result) _ _
           (omega arith) (after-node-fits .node-fits .ensures) (not-false _ (at-if1 .if1 .left)) (after-write .write .ensures)

@@ -2,6 +2,7 @@
 use mathlib.Core.Path.{sym, ap, _∙_, subst}
 use Prim.Native.Nat.{_≤_}
 use borrow.Author.Needs.{needs}
+use Rattle.policies.specs.Outcome.{most-bytes}
 use Rattle.policies.specs.declared.PolicyAnswer.{PolicyAnswer}
 use Rattle.packet_store.specs.PackedPolicy.{offset, packed-policy}
 use Rattle.packing.proofs.Halves.{low}
@@ -10,7 +11,7 @@ use Rattle.packet_store.proofs.policy_call.pack.Tie as tie
 
 pack-refusal-requires : tie.Need-pack-refusal-requires
 pack-refusal-requires c κs =
-    subst (λ (a : PolicyAnswer). offset a ≤ 4096) (c .before .a2 .given .1) (c .before .before .before .pre)
+    subst (λ (a : PolicyAnswer). offset a ≤ most-bytes) (c .before .a2 .given .1) (c .before .before .before .pre)
 
 returns : tie.Need-returns
 returns c = low _ ∙ sym (ap packed-policy (c .before .a .given .1))

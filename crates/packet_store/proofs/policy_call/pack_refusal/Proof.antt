@@ -3,6 +3,7 @@ use mathlib.Core.Path.{sym, ap, _∙_, subst}
 use Prim.Native.Nat.{ℕ, _+_, _*_, _≤_}
 use native.Mathlib.Omega.{arith}
 use borrow.Author.Needs.{needs}
+use Rattle.policies.specs.Outcome.{most-bytes}
 use Rattle.policies.specs.declared.PolicyAnswer.the-variants.{Declined}
 use Rattle.policies.specs.declared.PolicyRefusal.{PolicyRefusal}
 use Rattle.packet_store.specs.PackedPolicy.{offset, packed-policy}
@@ -15,7 +16,7 @@ refused r = packed-policy (Declined r)
 
 add-result : tie.Need-add-result
 add-result c =
-    let o = subst (λ (r : PolicyRefusal). offset (Declined r) ≤ 4096) (c .before .before .r .given .1) (c .before .before .before .before .pre) in
+    let o = subst (λ (r : PolicyRefusal). offset (Declined r) ≤ most-bytes) (c .before .before .r .given .1) (c .before .before .before .before .pre) in
     omega arith
 
 returns : tie.Need-returns

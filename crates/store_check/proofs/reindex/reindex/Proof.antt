@@ -30,7 +30,7 @@ loop-again c =
     (omega arith, entering-next (turn .loop .inv .1) (c .before .before .enter .ensures))
 
 same-length : tie.Need-same-length Inv-loop μ-loop
-same-length c = c .before .loop .inv .1 .apart .work-length ∙ c .before .before .before .before .empty .ensures .work-length
+same-length c = c .before .loop .inv .1 .apart .work-length ∙ c .before .before .before .before .empty .ensures .apart .work-length
 
 returns : tie.Need-returns Inv-loop μ-loop
 returns c = entered-all (c .before .before .before .before .empty .ensures) (c .before .loop .inv .1) (omega arith)
