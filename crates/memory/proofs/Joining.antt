@@ -11,7 +11,6 @@ use lib.ListN.{List·getD-eq-default, length, getD, take, drop, length-append, l
 use lib.Seq.{getD-set-same, getD-set-other, set-out, take-set-le, paste}
 use lib.Dec.{ltb, leb, T, lt→ltb}
 use borrow.Author.Tests.{le-leb, lt-leb}
-use Rattle.model.specs.Operations.{fields}
 use Rattle.model.specs.Packets.{none}
 use Rattle.model.specs.Programs.{same, mk, run}
 use Rattle.model.specs.Safety.{Kids, Safe}

@@ -187,8 +187,8 @@ relation-has S l h a b c d A B C D = record {
 }
 
 -- v says nothing wrong of g in stores whose words have W
-abbrev pub KnowsProperties : (Store → Type 0) → Kind → ℕ → ℕ → Type 0
-KnowsProperties W K g v = (k : ℕ) (S : Store) → WellFormed k S → W S → Known K S g v
+abbrev pub WordKnown : (Store → Type 0) → Kind → ℕ → ℕ → Type 0
+WordKnown W K g v = (k : ℕ) (S : Store) → WellFormed k S → W S → Known K S g v
 
 -- the child's level, where its word says the same level as the first child's
 shared-level : (K : Kind) (S : Store) (g a v l : ℕ) → 8 ≤ a → v / 8 ≡ a / 8 → Known K S g v → Held K S l g → a / 16 ≡ l
@@ -199,7 +199,7 @@ at-child : {K : Kind} {S : Store} {x : List ℕ} (h d v l : ℕ) → 0 < v → H
     → Has K S l (child K S h d) (properties-in v)
 at-child {K} {S} h d v l p A g i f = subst (λ x. Known K S (getD x d 0) v) (sym g) f p l (A .below d i)
 
-pub set-gathers : (W : Store → Type 0) (x : List ℕ) (v0 v1 r : ℕ) → KnowsProperties W set (getD x 0 0) v0 → KnowsProperties W set (getD x 1 0) v1 → 8 ≤ v0
+pub set-gathers : (W : Store → Type 0) (x : List ℕ) (v0 v1 r : ℕ) → WordKnown W set (getD x 0 0) v0 → WordKnown W set (getD x 1 0) v1 → 8 ≤ v0
     → v1 / 8 ≡ v0 / 8
     → (let p = in-both (properties-in v0) (properties-in v1) in 0 < r → properties-in r ≡ properties (p .empty) (p .universal) false (p .level + 1))
     → Gathers set W x r
@@ -220,9 +220,9 @@ set-gathers W x v0 v1 r f0 f1 o e1 q = record {
     pair (suc zero) i = inr refl
     pair (suc (suc d)) i = absurd (omega arith)
 
-pub relation-gathers : (W : Store → Type 0) (x : List ℕ) (v00 v01 v10 v11 r : ℕ) → KnowsProperties W rel (getD x 0 0) v00
-    → KnowsProperties W rel (getD x 1 0) v01
-    → KnowsProperties W rel (getD x 2 0) v10 → KnowsProperties W rel (getD x 3 0) v11 → 8 ≤ v00 → v01 / 8 ≡ v00 / 8 → v10 / 8 ≡ v00 / 8 → v11 / 8 ≡ v00 / 8
+pub relation-gathers : (W : Store → Type 0) (x : List ℕ) (v00 v01 v10 v11 r : ℕ) → WordKnown W rel (getD x 0 0) v00
+    → WordKnown W rel (getD x 1 0) v01
+    → WordKnown W rel (getD x 2 0) v10 → WordKnown W rel (getD x 3 0) v11 → 8 ≤ v00 → v01 / 8 ≡ v00 / 8 → v10 / 8 ≡ v00 / 8 → v11 / 8 ≡ v00 / 8
     → (let on = in-both (properties-in v00) (properties-in v11) in let off = in-both (properties-in v01) (properties-in v10) in
     0 < r → properties-in r ≡ properties (on .empty && off .empty) (on .universal && off .universal) (on .identity && off .empty) (on .level + 1))
     → Gathers rel W x r

@@ -11,7 +11,7 @@ use Rattle.memory.specs.Performing.{other, OtherNodes, ReducesOn, ReadsC
 use Rattle.memory.specs.Rows.{rows, plain}
 use Rattle.memory.specs.Working.{Has, Words, Right}
 use Rattle.memory.specs.declared.Properties.{Properties}
-use Rattle.memory.proofs.Steps.{Decides, turn}
+use Rattle.memory.proofs.Steps.{TestIs, turn}
 
 other-same : (K : Kind) {o : List ℕ} {j : ℕ} {B : Store} (m : List ℕ) (n : ℕ) → OtherNodes K o j B → plain (other K) (plain K B m n) o j ≡ plain K B m n
 other-same set m n b = λ i. record { sets = rows 2 n m; rels = sym (b .read) i }
@@ -38,12 +38,12 @@ module _ {K : Kind} {o m w : List ℕ} {j : ℕ} where
         (subst (Words w) (sym e) (R .words)) (subst (λ T. Held (other K) T l h) (sym e) s))
 
     -- tests on the known properties of a handle of the other kind
-    pub empty-of-other : {v : Bool} → r .empty ≡ v → Decides (OtherNodes K o j) K m w (has isEmpty (other K) l h) v
+    pub empty-of-other : {v : Bool} → r .empty ≡ v → TestIs (OtherNodes K o j) K m w (has isEmpty (other K) l h) v
     empty-of-other e = record { decides = λ B c n i R s. outcome c R s .empty ∙ e }
 
-    pub universal-of-other : {v : Bool} → r .universal ≡ v → Decides (OtherNodes K o j) K m w (has isUniversal (other K) l h) v
+    pub universal-of-other : {v : Bool} → r .universal ≡ v → TestIs (OtherNodes K o j) K m w (has isUniversal (other K) l h) v
     universal-of-other e = record { decides = λ B c n i R s. outcome c R s .universal ∙ e }
 
 pub identity-of-other : {o m w : List ℕ} {j l h : ℕ} {r : Properties} {v : Bool} → KnowsProperties rel o w l h r → r .identity ≡ v
-    → Decides (OtherNodes set o j) set m w (has isIdentity rel l h) v
+    → TestIs (OtherNodes set o j) set m w (has isIdentity rel l h) v
 identity-of-other t e = record { decides = λ B c n i R s. outcome t c R s .identity refl ∙ e }

@@ -8,7 +8,6 @@ use Prim.Native.Nat.{ℕ, _+_, _*_, _/_, _%_, _<_, _≤_}
 use native.Mathlib.Omega.{arith}
 use native.Mathlib.Nat.{add-assoc}
 use lib.ListN.{length, getD, drop}
-use Rattle.model.specs.Operations.{fields}
 use Rattle.model.specs.Programs.{Prog, ret, Ran, run}
 use Rattle.model.specs.Safety.{Safe, Settled}
 use Rattle.model.specs.Store.{Kind, set, rel, arity, Store, index, handle-of}

@@ -140,7 +140,7 @@ pub performs-then : {Q : Condition} {K : Kind} {p : Prog} {f : ℕ → Prog} {s 
 performs-then d e = record { runs = λ B c R. both-runs d e B c R }
 
 -- the test t has the answer b wherever it may be made
-pub record Decides (Q : Condition) (K : Kind) (m w : List ℕ) (t : Test) (b : Bool) : Type 0 where
+pub record TestIs (Q : Condition) (K : Kind) (m w : List ℕ) (t : Test) (b : Bool) : Type 0 where
   pub decides : (B : Store) → Q B → (n : ℕ) → n ≤ places (arity K) m → Right K B w m n → Sure t (plain K B m n) → holds t (plain K B m n) ≡ b
 
 module _ {Q : Condition} {K : Kind} {p : Prog} {m w : List ℕ} where
@@ -162,11 +162,11 @@ module _ {Q : Condition} {K : Kind} {p : Prog} {m w : List ℕ} where
   by {q} u e = turn u (λ B c n l a R. subst (λ x. ReducesTo q x (plain K B m n)) e (record { runs = refl; safe = a }))
 
   -- the test holds; it does not
-  pub yes : {t : Test} {q q′ : Prog} → ReducesOn Q K p (ask t q q′) m w → Decides Q K m w t true → ReducesOn Q K p q m w
+  pub yes : {t : Test} {q q′ : Prog} → ReducesOn Q K p (ask t q q′) m w → TestIs Q K m w t true → ReducesOn Q K p q m w
   unfolding run Safe
   yes u f = turn u (λ B c n l a R. let e = f .decides B c n l R (a .0) in record { runs = rw e; safe = rw e at (a .1) })
 
-  pub no : {t : Test} {q q′ : Prog} → ReducesOn Q K p (ask t q q′) m w → Decides Q K m w t false → ReducesOn Q K p q′ m w
+  pub no : {t : Test} {q q′ : Prog} → ReducesOn Q K p (ask t q q′) m w → TestIs Q K m w t false → ReducesOn Q K p q′ m w
   unfolding run Safe
   no u f = turn u (λ B c n l a R. let e = f .decides B c n l R (a .0) in record { runs = rw e; safe = rw e at (a .1) })
 
@@ -201,21 +201,21 @@ module _ {Q : Condition} {K : Kind} {p : Prog} {m w : List ℕ} where
   impossible {s = s} ok u = record { runs = λ B c R. let F = R .live ok in absurd (u .left B c (s .n) (R .room) (F .safe) (F .work) .safe) }
 
 -- tests on numbers, and on known properties
-pub same-says : {Q : Condition} {K : Kind} {m w : List ℕ} {a b : ℕ} {v : Bool} → eqb a b ≡ v → Decides Q K m w (same a b) v
+pub same-says : {Q : Condition} {K : Kind} {m w : List ℕ} {a b : ℕ} {v : Bool} → eqb a b ≡ v → TestIs Q K m w (same a b) v
 same-says e = record { decides = λ B c n l R s. e }
 
-pub less-says : {Q : Condition} {K : Kind} {m w : List ℕ} {a b : ℕ} {v : Bool} → ltb a b ≡ v → Decides Q K m w (less a b) v
+pub less-says : {Q : Condition} {K : Kind} {m w : List ℕ} {a b : ℕ} {v : Bool} → ltb a b ≡ v → TestIs Q K m w (less a b) v
 less-says e = record { decides = λ B c n l R s. e }
 
 module _ {Q : Condition} {K : Kind} {m w : List ℕ} {l h : ℕ} {r : Properties} {v : Bool} (T′ : KnowsProperties K m w l h r) where
-  pub empty-says : r .empty ≡ v → Decides Q K m w (has isEmpty K l h) v
+  pub empty-says : r .empty ≡ v → TestIs Q K m w (has isEmpty K l h) v
   empty-says e = record { decides = λ B c n i R s. T′ .tells (R .fields) B n i (R .formed) (R .words) s .empty ∙ e }
 
-  pub universal-says : r .universal ≡ v → Decides Q K m w (has isUniversal K l h) v
+  pub universal-says : r .universal ≡ v → TestIs Q K m w (has isUniversal K l h) v
   universal-says e = record { decides = λ B c n i R s. T′ .tells (R .fields) B n i (R .formed) (R .words) s .universal ∙ e }
 
 pub identity-says : {Q : Condition} {m w : List ℕ} {l h : ℕ} {r : Properties} {v : Bool} → KnowsProperties rel m w l h r → r .identity ≡ v
-    → Decides Q rel m w (has isIdentity rel l h) v
+    → TestIs Q rel m w (has isIdentity rel l h) v
 identity-says A e = record { decides = λ B c n i R s. A .tells (R .fields) B n i (R .formed) (R .words) s .identity refl ∙ e }
 
 -- a number is given, after a failure or not

@@ -8,7 +8,7 @@ use Prim.Native.Nat.{ℕ, zero, suc, _+_, _<_}
 use native.Mathlib.Omega.{arith}
 use lib.Dec.{eqb, eqb→eq}
 use Rattle.model.specs.Meaning.{Rel, Relates, Same, bit-of, Passes, Assign, Filter}
-use Rattle.model.specs.Operations.{fields, test-node, assign-node, test, assign}
+use Rattle.model.specs.Operations.{each-field, test-node, assign-node, test, assign}
 use Rattle.model.specs.Packets.{none, more, Packet, relates}
 use Rattle.model.specs.Programs.{mk}
 use Rattle.model.specs.Store.{rel, Store, pick}
@@ -101,8 +101,8 @@ module _ {k : ℕ} {X : ℕ → ℕ → Type 0} {node : ℕ → ℕ → List ℕ
   zero-up l z F i Z = mk-relates l z z z z (λ p q. ⊥) F i Z Z Z Z
 
   fields-does : {S : Store} (i l r z : ℕ) → WellFormed k S → i + l ≡ k → Begun X v i l S r → Relates l (λ p q. ⊥) S z
-      → Does k S (fields node v i r z) (Relates k (Field X v))
-  unfolding fields
+      → Does k S (each-field node v i r z) (Relates k (Field X v))
+  unfolding each-field
   fields-does zero l r z F e (inl A) Z = absurd (omega (arith, A .0))
   fields-does {S} zero l r z F e (inr A) Z = ret-does r F (subst (λ m. Relates m (Field X v) S r) (omega (arith, e))
       (subst (λ j. Relates l (Field X j) S r) (omega (arith, A .1)) (A .2)))
@@ -115,7 +115,7 @@ module _ {k : ℕ} {X : ℕ → ℕ → Type 0} {node : ℕ → ℕ → List ℕ
       begun-ext E (inl B) = inl (B .0, relates-ext E (B .1))
       begun-ext E (inr B) = inr (B .0, B .1, relates-ext E (B .2))
 
-  built : {S : Store} → WellFormed k S → v < k → Does k S (fields node v k 1 0) (Relates k (Field X v))
+  built : {S : Store} → WellFormed k S → v < k → Does k S (each-field node v k 1 0) (Relates k (Field X v))
   built {S} F h = fields-does k 0 1 0 F (omega arith) (inl (h, record { held = omega arith; means = one })) (record { held = omega arith; means = nil })
     where
       one : (p q : List ℕ) → Packet 0 p → Packet 0 q → relates S 1 p q ↔ (p ≡ q)

@@ -130,10 +130,10 @@ raise zero r = ret r
 raise (suc n) r = mk set (r ∷ r ∷ []) >>= λ s. raise n s
 
 -- spp.rs, the loop of `test` and `assign`: from the last field up, at field v the node `at`, elsewhere the identity's
-unfoldable pub fields : (ℕ → ℕ → List ℕ) → ℕ → ℕ → ℕ → ℕ → Prog
-fields at v zero res z = ret res
-fields at v (suc i) res z =
-    mk rel (pick (eqb i v) (at res z) (res ∷ z ∷ z ∷ res ∷ [])) >>= λ r. mk rel (z ∷ z ∷ z ∷ z ∷ []) >>= λ z′. fields at v i r z′
+unfoldable pub each-field : (ℕ → ℕ → List ℕ) → ℕ → ℕ → ℕ → ℕ → Prog
+each-field at v zero res z = ret res
+each-field at v (suc i) res z =
+    mk rel (pick (eqb i v) (at res z) (res ∷ z ∷ z ∷ res ∷ [])) >>= λ r. mk rel (z ∷ z ∷ z ∷ z ∷ []) >>= λ z′. each-field at v i r z′
 
 abbrev pub test-node : Bool → ℕ → ℕ → List ℕ
 test-node true res z = z ∷ z ∷ z ∷ res ∷ []
@@ -147,8 +147,8 @@ assign-node false res z = res ∷ z ∷ res ∷ z ∷ []
 unfoldable pub test : Kind → ℕ → ℕ → Bool → Prog
 test set k v b =
     zero-at-depth set (k - v - 1) >>= λ z. mk set (z ∷ signed 1 z ∷ []) >>= λ r. raise v r >>= λ s. ret (signed (pick b 0 1) s)
-test rel k v b = fields (test-node b) v k 1 0
+test rel k v b = each-field (test-node b) v k 1 0
 
 -- spp.rs, `assign`
 unfoldable pub assign : ℕ → ℕ → Bool → Prog
-assign k v b = fields (assign-node b) v k 1 0
+assign k v b = each-field (assign-node b) v k 1 0

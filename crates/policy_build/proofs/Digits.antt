@@ -8,15 +8,13 @@ use lib.Dec.{leb}
 use lib.ListN.{length, getD, drop}
 use borrow.Author.Tests.{le-leb, leb-true}
 use Rattle.memory.proofs.Steps.{false≢true}
+use Rattle.policy_text.specs.Lexicon.{Digit}
 use Rattle.policy_text.specs.XForms.{Field, f-zero, f-one, f-two}
 use Rattle.policy_build.specs.Items.{ReadsNumber}
 use Rattle.policy_build.specs.declared.items.Number.{Number}
 use Rattle.policy_build.proofs.Suffixes.{first-of, first-is, next}
 
 -- a byte that is a digit, and one that is not
-abbrev pub Digit : ℕ → Type 0
-Digit b = (48 ≤ b) × (b ≤ 57)
-
 pub is-digit : {r : Bool} (b : ℕ) → r ≡ (leb 48 b && leb b 57) → r ≡ true → Digit b
 is-digit b e f = go (leb 48 b) (leb b 57) refl refl (sym e ∙ f)
   where

@@ -16,17 +16,17 @@ use Rattle.policy_text.specs.Lexicon.{Lexicon}
 use Rattle.policy_text.specs.Grammar.{Atom, Starred, Product, Sum}
 use Rattle.policy_build.specs.Building.{Rank, Builds, BuildsText, after-atom, after-starred, after-product, after-sum}
 use Rattle.policy_build.specs.declared.Built.{Built}
-use Rattle.policy_build.proofs.Chains.{Step, Chain, Begun, Starring, Joining, starred-begun, product-begun, sum-begun}
+use Rattle.policy_build.proofs.Chains.{ChainStep, Chain, ChainBegun, Starring, Joining, starred-begun, product-begun, sum-begun}
 use Rattle.policy_build.proofs.Chains.{chain-next, chain-end, chain-first}
 
 -- a rank whose parts are an item of the rank below and then steps after the byte b
-pub record Looped (G Item : Rank) (After Below : ℕ → Type 0) (b : ℕ) (St : ℕ → Step) : Type 0 where
-  pub begun : (d : ℕ) (u : List ℕ) (p : Policy) → G d u p → Begun (Item d) b (St d) u p
+pub record Looped (G Item : Rank) (After Below : ℕ → Type 0) (b : ℕ) (St : ℕ → ChainStep) : Type 0 where
+  pub begun : (d : ℕ) (u : List ℕ) (p : Policy) → G d u p → ChainBegun (Item d) b (St d) u p
   pub below : (x : ℕ) → After x → Below x
   pub starts : Below b
   pub apart : (x : ℕ) → After x → ¬ (x ≡ b)
 
-abbrev pub joined : (Policy → Policy → Policy) → Rank → ℕ → Step
+abbrev pub joined : (Policy → Policy → Policy) → Rank → ℕ → ChainStep
 joined join Item d = Joining join (Item d)
 
 pub starred-looped : {X : Lexicon} → Looped (Starred X) (Atom X) after-starred after-atom 42 (λ d. Starring)
@@ -44,7 +44,7 @@ sum-looped = record {
 }
 
 -- part of the way: the chain's policy so far is built, and its steps to p are ahead
-pub record OnWay (b : ℕ) (St : Step) (k : ℕ) (t : List ℕ) (p : Policy) (rest : List ℕ) (s : RunState) (m m′ w w′ : List ℕ) (r : Built) : Type 0 where
+pub record OnWay (b : ℕ) (St : ChainStep) (k : ℕ) (t : List ℕ) (p : Policy) (rest : List ℕ) (s : RunState) (m m′ w w′ : List ℕ) (r : Built) : Type 0 where
   pub so-far : Policy
   pub ahead : List ℕ
   pub chain : Chain b St so-far ahead p
@@ -52,15 +52,15 @@ pub record OnWay (b : ℕ) (St : Step) (k : ℕ) (t : List ℕ) (p : Policy) (re
   pub performs : Performs rel (policy-program k so-far) s m m′ w w′ (r .made)
 
 -- what the loop keeps
-pub record Looping (G : Rank) (After : ℕ → Type 0) (b : ℕ) (St : ℕ → Step) (k : ℕ) (t : List ℕ) (at : ℕ) (s : RunState) (m m′ w w′ : List ℕ)
+pub record Looping (G : Rank) (After : ℕ → Type 0) (b : ℕ) (St : ℕ → ChainStep) (k : ℕ) (t : List ℕ) (at : ℕ) (s : RunState) (m m′ w w′ : List ℕ)
     (r : Built) : Type 0 where
   pub from : at ≤ r .end
   pub within : r .end ≤ length t
   pub way : (d : ℕ) (u : List ℕ) (p : Policy) (rest : List ℕ) → G d u p → drop at t ≡ u ++ rest → After (getD rest 0 0)
       → OnWay b (St d) k t p rest s m m′ w w′ r
 
-module _ {G Item : Rank} {After Below : ℕ → Type 0} {b : ℕ} {St : ℕ → Step} (L : Looped G Item After Below b St) {k : ℕ} {t : List ℕ} {at : ℕ} {s : RunState}
-    {m m′ w w′ : List ℕ} {r : Built} where
+module _ {G Item : Rank} {After Below : ℕ → Type 0} {b : ℕ} {St : ℕ → ChainStep} (L : Looped G Item After Below b St) {k : ℕ} {t : List ℕ} {at : ℕ}
+    {s : RunState} {m m′ w w′ : List ℕ} {r : Built} where
   loop-starts : Builds Item Below k t at s m m′ w w′ r → Looping G After b St k t at s m m′ w w′ r
   loop-starts B = record {
     from = B .from;
@@ -80,7 +80,7 @@ module _ {G Item : Rank} {After Below : ℕ → Type 0} {b : ℕ} {St : ℕ → 
   }
 
 -- what the turns keep, from where the loop began (m₀, w₀, r₀): whatever was being read and built there still is
-pub record Carried (G : Rank) (After : ℕ → Type 0) (b : ℕ) (St : ℕ → Step) (k : ℕ) (t : List ℕ) (at : ℕ) (m₀ w₀ : List ℕ) (r₀ : Built) (m w : List ℕ)
+pub record Carried (G : Rank) (After : ℕ → Type 0) (b : ℕ) (St : ℕ → ChainStep) (k : ℕ) (t : List ℕ) (at : ℕ) (m₀ w₀ : List ℕ) (r₀ : Built) (m w : List ℕ)
     (r : Built) : Type 0 where
   pub from : at ≤ r .end
   pub within : r .end ≤ length t
@@ -88,7 +88,7 @@ pub record Carried (G : Rank) (After : ℕ → Type 0) (b : ℕ) (St : ℕ → S
   pub work-length : length w ≡ length w₀
   pub on : (s : RunState) (n v : List ℕ) → Looping G After b St k t at s n m₀ v w₀ r₀ → Looping G After b St k t at s n m v w r
 
-module _ {G Item : Rank} {After Below : ℕ → Type 0} {b : ℕ} {St : ℕ → Step} (L : Looped G Item After Below b St) {k : ℕ} {t : List ℕ} {at : ℕ} where
+module _ {G Item : Rank} {After Below : ℕ → Type 0} {b : ℕ} {St : ℕ → ChainStep} (L : Looped G Item After Below b St) {k : ℕ} {t : List ℕ} {at : ℕ} where
   pub loop-begins : {s : RunState} {m m₀ w w₀ : List ℕ} {r : Built} → Builds Item Below k t at s m m₀ w w₀ r → Carried G After b St k t at m₀ w₀ r m₀ w₀ r
   loop-begins B = record { from = B .from; within = B .within; long = refl; work-length = refl; on = λ s n v K. K }
 

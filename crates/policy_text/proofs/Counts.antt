@@ -39,7 +39,7 @@ below n k = by (leb k n) refl
 
 module _ {X : Lexicon} (laws : Lawful X) where
   -- the test finds what breaks the rule, and only where a spelling begins or at `!`
-  pub record Finds (R : Policy → Bool) (P : List ℕ → Bool) : Type 0 where
+  pub record FindsFaults (R : Policy → Bool) (P : List ℕ → Bool) : Type 0 where
     other : (b : ℕ) (s : List ℕ) → X .begins? (b ∷ []) ≡ false → (b ≡ 33 → ⊥) → P (b ∷ s) ≡ false
     inner : (a : ℕ) (s : List ℕ) (b : ℕ) (r : List ℕ) → X .begins? (a ∷ (s ++ (b ∷ []))) ≡ true → P (b ∷ r) ≡ false
     fail : R Policy.fail ≡ true
@@ -51,7 +51,7 @@ module _ {X : Lexicon} (laws : Lawful X) where
     seq : (p q : Policy) → R (Policy.seq p q) ≡ R p && R q
     stars : (p : Policy) → R (Policy.stars p) ≡ R p
 
-  module _ (R : Policy → Bool) (P : List ℕ → Bool) (F : Finds R P) where
+  module _ (R : Policy → Bool) (P : List ℕ → Bool) (F : FindsFaults R P) where
     none-other : (b : ℕ) (s r : List ℕ) → (Letter b → ⊥) → (b ≡ 33 → ⊥) → none P (b ∷ s) r ≡ none P s r
     unfolding none
     none-other b s r h k = ap (λ (x : Bool). not x && none P s r) (F .other b (s ++ r) (no-letter laws b h) k)
@@ -138,7 +138,7 @@ module _ {X : Lexicon} (laws : Lawful X) where
               (λ r. F .plus p q ∙ case-join s t p q 43 (λ e. omega (arith, e .0)) (λ e. omega arith) h k r)
         ]
 
-  pub fields-found : (k : ℕ) → Bounds X k → Finds (fields-below? k) (X .outside? k)
+  pub fields-found : (k : ℕ) → Bounds X k → FindsFaults (fields-below? k) (X .outside? k)
   unfolding fields-below?
   fields-found k B = record {
     other = λ b s h j. B .elsewhere b s h;
@@ -162,7 +162,7 @@ module _ {X : Lexicon} (laws : Lawful X) where
       let l = laws .letter b (laws .begins (b ∷ []) s n g) in
       ap (λ (z : Bool). z && not (clean? X (s ++ x))) (ne-eqb b 33 (λ e. omega (arith, l .0)))
 
-  pub negations-found : Finds negates-predicates? (offends? X)
+  pub negations-found : FindsFaults negates-predicates? (offends? X)
   unfolding negates-predicates? offends?
   negations-found = record {
     other = λ b s h j. ap (λ (x : Bool). x && not (clean? X s)) (ne-eqb b 33 j);

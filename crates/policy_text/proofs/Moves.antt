@@ -22,10 +22,10 @@ use Rattle.policy_text.specs.declared.syntax.Read.{Read}
 use Rattle.policy_text.specs.declared.syntax.Read.the-variants.{End, Bad, Deep}
 
 -- of two refusals
-abbrev pub Refused : Read → Type 0
-Refused x = (tagOf (declared enum) x ≡ 1) ⊎ (tagOf (declared enum) x ≡ 2)
+abbrev pub ReadRefused : Read → Type 0
+ReadRefused x = (tagOf (declared enum) x ≡ 1) ⊎ (tagOf (declared enum) x ≡ 2)
 
-not-end : (e : ℕ) → Refused (End e) → ⊥
+not-end : (e : ℕ) → ReadRefused (End e) → ⊥
 not-end e (inl h) = omega (arith, h)
 not-end e (inr h) = omega (arith, h)
 
@@ -166,13 +166,13 @@ module _ (X : Lexicon) where
           (sa, pa, w .0, u .1 ∙ w .1),
     )
 
-    pub join-atom-refused : (g : ℕ → Bool) (d at : ℕ) (x : Read) → Refused x → AtomPost X t d need at x → JoinPost X g t d at x
+    pub join-atom-refused : (g : ℕ → Bool) (d at : ℕ) (x : Read) → ReadRefused x → AtomPost X t d need at x → JoinPost X g t d at x
     unfolding AtomPost JoinPost
     join-atom-refused g d at (End e) r a = absurd (not-end e r)
     join-atom-refused g d at (Bad e) r a = λ sa pa σ h. a sa pa 0 σ (zero-add _ ∙ h)
     join-atom-refused g d at (Deep e) r a = λ sa pa σ h. a sa pa 0 σ (zero-add _ ∙ h)
 
-    pub join-refused : (g h : ℕ → Bool) (d at : ℕ) (x : Read) → Refused x → JoinPost X g t d at x → JoinPost X h t d at x
+    pub join-refused : (g h : ℕ → Bool) (d at : ℕ) (x : Read) → ReadRefused x → JoinPost X g t d at x → JoinPost X h t d at x
     unfolding JoinPost
     join-refused g h d at (End e) r a = absurd (not-end e r)
     join-refused g h d at (Bad e) r a = a
@@ -272,7 +272,7 @@ module _ (X : Lexicon) where
       unfolding nesting
       within sa pa n σ g = omega arith
 
-      pub paren-refused : (x : Read) → Refused x → JoinPost X continues-sum t (d + 1) (at + 1) x → AtomPost X t d need at x
+      pub paren-refused : (x : Read) → ReadRefused x → JoinPost X continues-sum t (d + 1) (at + 1) x → AtomPost X t d need at x
       unfolding AtomPost JoinPost
       paren-refused (End e) r a = absurd (not-end e r)
       paren-refused (Bad i) r a = λ sa pa n σ g. opened sa pa n σ g ∙ a nothing nothing (paren sa pa n ∷ σ) (within sa pa n σ g)
@@ -308,7 +308,7 @@ module _ (X : Lexicon) where
     unfolding scan-at reads
     whole-from x e = e
 
-    pub whole-refused : (x : Read) → Refused x → JoinPost X continues-sum t 0 0 x → x ≡ read-of (length t) (reads X t)
+    pub whole-refused : (x : Read) → ReadRefused x → JoinPost X continues-sum t 0 0 x → x ≡ read-of (length t) (reads X t)
     unfolding JoinPost nesting read-of
     whole-refused (End e) r a = absurd (not-end e r)
     whole-refused (Bad i) r a = sym (ap (read-of (length t)) (whole-from (bad i) (a nothing nothing [] refl)))

@@ -11,18 +11,18 @@ use Rattle.model.proofs.Recursion.{node2-open}
 use Rattle.memory.specs.Performing.{Condition, OtherNodes, ReducesOn, ReadsChildren}
 use Rattle.memory.proofs.OtherNodes.{read-of-other}
 use Rattle.memory.proofs.Steps.{begin, by, further, looked}
-use Rattle.relation_images.specs.declared.moves.Image.{Image}
-use Rattle.relation_images.specs.declared.moves.Image.the-variants.{Answer, Zero, One, Whole, Node}
+use Rattle.relation_images.specs.declared.moves.ImageShortcut.{ImageShortcut}
+use Rattle.relation_images.specs.declared.moves.ImageShortcut.the-variants.{Answer, Zero, One, Whole, Node}
 use Rattle.relation_images.specs.Moves.{image-rest, ImageReduces}
 
 -- the program is its shortcuts
-pub tested : {Q : Condition} {p q whole node : Prog} {l : ℕ} {m w : List ℕ} {r : Image} → p ≡ q → ImageReduces Q q l whole node m w r
+pub tested : {Q : Condition} {p q whole node : Prog} {l : ℕ} {m w : List ℕ} {r : ImageShortcut} → p ≡ q → ImageReduces Q q l whole node m w r
     → ImageReduces Q p l whole node m w r
 tested e t = record { stands = further (by begin e) (t .stands) }
 
 -- each thing that they may leave
-module _ {Q : Condition} {p whole node : Prog} {l : ℕ} {m w : List ℕ} {r : Image} (t : ImageReduces Q p l whole node m w r) where
-  rest-left : {i : Image} → r ≡ i → ReducesOn Q set p (image-rest l whole node i) m w
+module _ {Q : Condition} {p whole node : Prog} {l : ℕ} {m w : List ℕ} {r : ImageShortcut} (t : ImageReduces Q p l whole node m w r) where
+  rest-left : {i : ImageShortcut} → r ≡ i → ReducesOn Q set p (image-rest l whole node i) m w
   rest-left e = by (t .stands) (ap (image-rest l whole node) e)
 
   pub answer-left : {h : ℕ} → r ≡ Answer h → ReducesOn Q set p (ret h) m w

@@ -10,7 +10,7 @@ ghost use Rattle.relation_images.specs.Moves.{ImageReduces};
 use memory::RunState;
 
 // What shortcuts know of an image: the answer, the empty or full set, that of the full set, or nothing.
-enum Image {
+enum ImageShortcut {
     Answer(u32),
     Zero,
     One,
@@ -36,37 +36,37 @@ fn image_tests(
     a: u32,
     x: u32,
     y: u32,
-) -> Image
+) -> ImageShortcut
     requires { ⌜ (0 < op) × (op < op-limit) ⌝ }
     ensures { λ r. ⌜ ((j : ℕ) (whole node : Prog) → node ≡ memo-program op level x y
         → ImageReduces (OtherNodes set (now (relations .entry)) j) (image-short level p a whole node) level whole node
         (now (sets .entry)) (now (work .entry)) r) ⌝ }
 {
     if p < 2 {
-        return Image::Answer(lesser(p, a));
+        return ImageShortcut::Answer(lesser(p, a));
     }
     let pp = memory::property_words::set_properties(sets, work, level, p);
     if pp.empty {
-        return Image::Answer(p);
+        return ImageShortcut::Answer(p);
     }
     let pa = memory::property_words::relation_properties(relations, work, level, a);
     if pa.identity {
-        return Image::Answer(p);
+        return ImageShortcut::Answer(p);
     }
     if pa.empty {
-        return Image::Zero;
+        return ImageShortcut::Zero;
     }
     if pa.universal {
-        return Image::One;
+        return ImageShortcut::One;
     }
     if pp.universal {
-        return Image::Whole;
+        return ImageShortcut::Whole;
     }
     let found = memory::memo::recall(work, op, level, x, y);
     if let memory::Lookup::Answer(h) = found {
-        return Image::Answer(h);
+        return ImageShortcut::Answer(h);
     }
-    Image::Node
+    ImageShortcut::Node
 }
 
 // The outputs of a relation for the packets of a set.
@@ -87,11 +87,11 @@ pub fn push(
     }
     let found = image_tests(relations, sets, work, memory::memo::PUSH, level, p, a, p, a);
     match found {
-        Image::Answer(h) => memory::insert::with_handle(s, h),
-        Image::Zero => sets::zero_at_depth(sets, work, s, level),
-        Image::One => sets::one_at_depth(sets, work, s, level),
-        Image::Whole => crate::fwd(relations, sets, work, s, level, a),
-        Image::Node => {
+        ImageShortcut::Answer(h) => memory::insert::with_handle(s, h),
+        ImageShortcut::Zero => sets::zero_at_depth(sets, work, s, level),
+        ImageShortcut::One => sets::one_at_depth(sets, work, s, level),
+        ImageShortcut::Whole => crate::fwd(relations, sets, work, s, level, a),
+        ImageShortcut::Node => {
             if level == 0 {
                 return s;
             }
@@ -126,11 +126,11 @@ pub fn pull(
     }
     let found = image_tests(relations, sets, work, memory::memo::PULL, level, p, a, a, p);
     match found {
-        Image::Answer(h) => memory::insert::with_handle(s, h),
-        Image::Zero => sets::zero_at_depth(sets, work, s, level),
-        Image::One => sets::one_at_depth(sets, work, s, level),
-        Image::Whole => crate::bwd(relations, sets, work, s, level, a),
-        Image::Node => {
+        ImageShortcut::Answer(h) => memory::insert::with_handle(s, h),
+        ImageShortcut::Zero => sets::zero_at_depth(sets, work, s, level),
+        ImageShortcut::One => sets::one_at_depth(sets, work, s, level),
+        ImageShortcut::Whole => crate::bwd(relations, sets, work, s, level, a),
+        ImageShortcut::Node => {
             if level == 0 {
                 return s;
             }

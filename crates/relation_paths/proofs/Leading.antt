@@ -19,8 +19,8 @@ use Rattle.memory.specs.declared.RunState.{RunState}
 use Rattle.memory.proofs.OtherNodes.{read-of-other}
 use Rattle.memory.proofs.Remembering.{performs-remember}
 use Rattle.memory.proofs.Steps.{performs-then, begin, by, looked, called, performs-ret, performs-same, performs-differ}
-use Rattle.relation_paths.specs.declared.Route.{Route}
-use Rattle.relation_paths.specs.declared.Route.the-variants.{Answer, Meet, Leave, Node}
+use Rattle.relation_paths.specs.declared.PathShortcut.{PathShortcut}
+use Rattle.relation_paths.specs.declared.PathShortcut.the-variants.{Answer, Meet, Leave, Node}
 use Rattle.relation_paths.specs.Paths.{path-rest, PathReduces}
 
 -- the first program says yes, and the second is not asked; it says no
@@ -79,8 +79,8 @@ pub path-opened : (l p a q : ℕ) {o m w : List ℕ} {j p0 p1 q0 q1 a00 a01 a10 
 path-opened l p a q h X Z Y = read-of-other (looked (looked (by begin (path-open l p a q h)) X) Z) Y
 
 -- each thing that the shortcuts may leave
-module _ {Q : Condition} {t : Prog} {l p a q : ℕ} {m w : List ℕ} {r : Route} (u : PathReduces Q t l p a q m w r) where
-  rest-left : {i : Route} → r ≡ i → ReducesOn Q set t (path-rest l p a q i) m w
+module _ {Q : Condition} {t : Prog} {l p a q : ℕ} {m w : List ℕ} {r : PathShortcut} (u : PathReduces Q t l p a q m w r) where
+  rest-left : {i : PathShortcut} → r ≡ i → ReducesOn Q set t (path-rest l p a q i) m w
   rest-left e = by (u .stands) (ap (path-rest l p a q) e)
 
   pub answer-left : {h : ℕ} → r ≡ Answer h → ReducesOn Q set t (ret h) m w

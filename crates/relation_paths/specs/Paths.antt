@@ -6,16 +6,16 @@ use Rattle.model.specs.Programs.{Prog, ret}
 use Rattle.model.specs.Sets.{intersects}
 use Rattle.model.specs.Images.{has-image, has-path-node}
 use Rattle.memory.specs.Performing.{Condition, ReducesOn}
-use Rattle.relation_paths.specs.declared.Route.{Route}
-use Rattle.relation_paths.specs.declared.Route.the-variants.{Answer, Meet, Leave, Node}
+use Rattle.relation_paths.specs.declared.PathShortcut.{PathShortcut}
+use Rattle.relation_paths.specs.declared.PathShortcut.the-variants.{Answer, Meet, Leave, Node}
 
 -- at level l, from the set p by the relation a to the set q
-abbrev pub path-rest : ℕ → ℕ → ℕ → ℕ → Route → Prog
+abbrev pub path-rest : ℕ → ℕ → ℕ → ℕ → PathShortcut → Prog
 path-rest l p a q (Answer h) = ret h
 path-rest l p a q Meet = intersects l p q
 path-rest l p a q Leave = has-image l p a
 path-rest l p a q Node = has-path-node l p a q
 
 -- r says what is left of the program t
-pub record PathReduces (Q : Condition) (t : Prog) (l p a q : ℕ) (m w : List ℕ) (r : Route) : Type 0 where
+pub record PathReduces (Q : Condition) (t : Prog) (l p a q : ℕ) (m w : List ℕ) (r : PathShortcut) : Type 0 where
   pub stands : ReducesOn Q set t (path-rest l p a q r) m w

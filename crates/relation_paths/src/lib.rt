@@ -14,7 +14,7 @@ use memory::RunState;
 const NO_NUMBER: u32 = memory::memo::OPERATIONS - memory::memo::HAS_PATH;
 
 // What shortcuts know of a path: the answer, that the two sets are to share a packet, that any output will do, or nothing.
-enum Route {
+enum PathShortcut {
     Answer(u32),
     Meet,
     Leave,
@@ -106,39 +106,39 @@ fn has_path_tests(
     p: u32,
     a: u32,
     q: u32,
-) -> Route
+) -> PathShortcut
     ensures { λ r. ⌜ ((j : ℕ) → PathReduces (OtherNodes set (now (relations .entry)) j) (has-path level p a q) level p a q
         (now (sets .entry)) (now (work .entry)) r) ⌝ }
 {
     let pp = memory::property_words::set_properties(sets, work, level, p);
     if pp.empty {
-        return Route::Answer(0);
+        return PathShortcut::Answer(0);
     }
     let pq = memory::property_words::set_properties(sets, work, level, q);
     if pq.empty {
-        return Route::Answer(0);
+        return PathShortcut::Answer(0);
     }
     let pa = memory::property_words::relation_properties(relations, work, level, a);
     if pa.empty {
-        return Route::Answer(0);
+        return PathShortcut::Answer(0);
     }
     if pa.universal {
-        return Route::Answer(1);
+        return PathShortcut::Answer(1);
     }
     if pa.identity {
-        return Route::Meet;
+        return PathShortcut::Meet;
     }
     if pq.universal {
-        return Route::Leave;
+        return PathShortcut::Leave;
     }
     if q >= NO_NUMBER {
-        return Route::Node;
+        return PathShortcut::Node;
     }
     let found = memory::memo::recall(work, memory::memo::HAS_PATH + q, level, p, a);
     if let memory::Lookup::Answer(h) = found {
-        return Route::Answer(h);
+        return PathShortcut::Answer(h);
     }
-    Route::Node
+    PathShortcut::Node
 }
 
 // Keeps what was found of a path, where the memo has a number for it.
@@ -170,10 +170,10 @@ pub fn has_path(
     }
     let found = has_path_tests(relations, sets, work, level, p, a, q);
     match found {
-        Route::Answer(h) => memory::insert::with_handle(s, h),
-        Route::Meet => sets::intersects(sets, work, s, level, p, q),
-        Route::Leave => has_image(relations, sets, work, s, level, p, a),
-        Route::Node => {
+        PathShortcut::Answer(h) => memory::insert::with_handle(s, h),
+        PathShortcut::Meet => sets::intersects(sets, work, s, level, p, q),
+        PathShortcut::Leave => has_image(relations, sets, work, s, level, p, a),
+        PathShortcut::Node => {
             if level == 0 {
                 return s;
             }

@@ -6,7 +6,7 @@ ghost use Prim.Native.Nat.{ℕ, _<_};
 ghost use lib.Dec.{eqb};
 ghost use Rattle.model.specs.Store.{rel, pick};
 ghost use Rattle.model.specs.Programs.{Prog};
-ghost use Rattle.model.specs.Operations.{fields, test, assign};
+ghost use Rattle.model.specs.Operations.{each-field, test, assign};
 ghost use Rattle.memory.specs.Performing.{Performs};
 ghost use Rattle.memory.specs.Memo.{op-test, op-assign, op-limit};
 ghost use Rattle.relations.specs.Fields.{field-node};
@@ -72,7 +72,7 @@ fn fields(
     res: u32,
     zero: u32,
 ) -> RunState
-    ensures { λ r. ⌜ Performs rel (fields (field-node assigns value) var n res zero) s
+    ensures { λ r. ⌜ Performs rel (each-field (field-node assigns value) var n res zero) s
         (now (nodes .entry)) (now (nodes .exit)) (now (work .entry)) (now (work .exit)) r ⌝ }
 {
     if n == 0 {
@@ -94,7 +94,7 @@ fn kept(
     assigns: bool,
     value: bool,
 ) -> RunState
-    ensures { λ r. ⌜ Performs rel (fields (field-node assigns value) var k 1 0) s
+    ensures { λ r. ⌜ Performs rel (each-field (field-node assigns value) var k 1 0) s
         (now (nodes .entry)) (now (nodes .exit)) (now (work .entry)) (now (work .exit)) r ⌝ }
 {
     if !s.ok {

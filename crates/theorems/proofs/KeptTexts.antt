@@ -86,14 +86,14 @@ module _ (k : ℕ) (t : List ℕ) (S : Nodes) where
     read-builds (Reading.NotPredicate i) q e = absurd (not-runs e)
 
   -- what a text's verdict runs is the program of its policy
-  pub record Kept (p : Prog) (f : Ran → PolicyAnswer) : Type 0 where
+  pub record KeptText (p : Prog) (f : Ran → PolicyAnswer) : Type 0 where
     pub keeps : WithinRules k t
     pub program : policy-program k (policy-of keeps) ≡ p
     pub made : (R : Ran) → f R ≡ Handle (R .value)
 
-  pub builds-kept : (p : Prog) (f : Ran → PolicyAnswer) → text-verdict t k S ≡ runs p f → Kept p f
+  pub builds-kept : (p : Prog) (f : Ran → PolicyAnswer) → text-verdict t k S ≡ runs p f → KeptText p f
   unfolding text-verdict
-  builds-kept p f = by-test (λ b. short? t ≡ b → pick b (of-reading k t (reading x-forms k t)) (gives (refused TooLong)) ≡ runs p f → Kept p f) (short? t)
+  builds-kept p f = by-test (λ b. short? t ≡ b → pick b (of-reading k t (reading x-forms k t)) (gives (refused TooLong)) ≡ runs p f → KeptText p f) (short? t)
       (λ s u e. let q = read-builds p f (reading x-forms k t) refl e in
       let r = keeps-rules x-lawful k (x-bounds k) t .0 (q .0) in record {
         keeps = record { short = leb→le (length t) most-bytes (subst T (sym u) tt); rules = r };

@@ -29,14 +29,14 @@ use Rattle.policies.specs.declared.PolicyAnswer.{PolicyAnswer}
 use Rattle.policies.specs.declared.PolicyAnswer.the-variants.{Handle}
 use Rattle.call_rules.proofs.Outcomes.{ended, store-outcome}
 use Rattle.policies.proofs.BuiltTexts.{policy-not-store}
-use Rattle.theorems.proofs.KeptTexts.{not-handle, accepted-ran, text-none, Kept, builds-kept}
+use Rattle.theorems.proofs.KeptTexts.{not-handle, accepted-ran, text-none, KeptText, builds-kept}
 
 -- a text has one policy, so what it relates is what that policy means
 pub tree-relates : (k : ℕ) (t : List ℕ) (x : Policy) → Sum x-forms 32 t x → Same k (meaning k x) (text-relates k t)
 tree-relates k t x s p q P Q = (λ r. (x, s, r), λ r. subst (λ y. meaning k y p q) (sym (tree-is x-lawful t (r .0) (r .1)) ∙ tree-is x-lawful t x s) (r .2))
 
 -- what the program of a text that keeps the rules leaves
-pub kept-does : {k : ℕ} {t : List ℕ} {S : Nodes} {p : Prog} {f : Ran → PolicyAnswer} → WellFormed k S → (K : Kept k t S p f)
+pub kept-does : {k : ℕ} {t : List ℕ} {S : Nodes} {p : Prog} {f : Ran → PolicyAnswer} → WellFormed k S → (K : KeptText k t S p f)
     → Does k S p (Relates k (meaning k (policy-of (K .keeps))))
 kept-does {k} {S = S} F K =
     subst (λ p. Does k S p (Relates k (meaning k (policy-of (K .keeps))))) (K .program) (policy-does (policy-of (K .keeps)) (K .keeps .rules .below) F)

@@ -9,7 +9,7 @@ use lib.Dec.{leb, T, leb→le}
 use lib.ListN.{length, length-drop}
 use Rattle.memory.specs.Rows.{places-of}
 use Rattle.model.specs.Images.{fwd, bwd, ifwd, ibwd, diagonal, push, pull, has-image, has-path, has-path-node, blank, new}
-use Rattle.model.specs.Operations.{constant, identity-at-depth, complement, union, intersect, xor, difference, raise, fields, test, assign, is-zero}
+use Rattle.model.specs.Operations.{constant, identity-at-depth, complement, union, intersect, xor, difference, raise, each-field, test, assign, is-zero}
 use Rattle.model.specs.Packets.{packet}
 use Rattle.model.specs.Policies.{policy-program}
 use Rattle.model.specs.Programs.{agrees, run}
@@ -37,28 +37,28 @@ use Rattle.policies.specs.Outcome.{of-reading, text-verdict}
 use Rattle.theorems.specs.AllCalls.{answered, any-step, plain-any-step, all-calls}
 use Rattle.theorems.specs.Lists.{in-turn, plain-steps}
 use Rattle.theorems.specs.PlainStore.{asked, on-lists, plain-step, plain-policy-step, begun}
-use Rattle.theorems.specs.Worked.{Row, yields, refuses, TableRight, one-field, no-field, faults, lines, two-fields, Worked}
+use Rattle.theorems.specs.Worked.{Expected, yields, refuses, TableRight, one-field, no-field, faults, lister-lines, two-fields, Worked}
 use Rattle.theorems.proofs.AllCalls.{any-right}
 use Rattle.theorems.proofs.Lists.{lists-right}
 
 -- THE PLAIN STORE: a table without its `new`, on the lists as `new k` leaves them, with m places for sets and n for relations
-abbrev without-new : List Row → List Row
+abbrev without-new : List Expected → List Expected
 without-new [] = []
 without-new (w ∷ t) = t
 
-abbrev Plainly : ℕ → ℕ → ℕ → List Row → Type 0
+abbrev Plainly : ℕ → ℕ → ℕ → List Expected → Type 0
 Plainly k m n t = plain-steps all-calls m n (map (λ w. w .0) t) (begun k) .answers ≡ map (λ w. w .1) t
 
 calls-plain : Plainly 0 0 0 (without-new no-field) × Plainly 1 2 11 (without-new one-field) × Plainly 2 10 36 (without-new two-fields)
 unfolding in-turn plain-any-step plain-step asked on-lists finishes guard also of-one of-pair of-path of-four level-of packet
-    run get mk-store mk-handle place having agrees constant identity-at-depth complement union intersect xor difference fields test raise assign is-zero
+    run get mk-store mk-handle place having agrees constant identity-at-depth complement union intersect xor difference each-field test raise assign is-zero
     sequence star flip naive-forward backward ifelse intersects fwd bwd ifwd ibwd diagonal push pull has-image has-path has-path-node new
     op1 node1 op2 node2
 calls-plain = (refl, refl, refl)
 
-texts-plain : Plainly 1 1 3 (without-new faults) × Plainly 1 1 5 (without-new lines)
+texts-plain : Plainly 1 1 3 (without-new faults) × Plainly 1 1 5 (without-new lister-lines)
 unfolding in-turn plain-any-step plain-policy-step on-lists finishes text-verdict of-reading policy-program
-    run get mk-store mk-handle place having agrees constant identity-at-depth union fields test new op2 node2
+    run get mk-store mk-handle place having agrees constant identity-at-depth union each-field test new op2 node2
     x-begins? x-whole? reading reading-of rules first field-number no-field? test? open-after clean-inside? clean? offends? reads scan final byte-step onward
     mid-step mid-go after-name close join-seq join-plus negs nesting leaf tree-of tree
 texts-plain = (refl, refl)
@@ -78,7 +78,7 @@ abbrev enough? : ℕ → ℕ → ℕ → Bool
 enough? k a b = leb k 32 && (leb (head rel) a && (leb (head set) b && (leb (3 * k) (places-for rel a) && leb k (places-for set b))))
 
 -- a table that begins with an accepted `new`
-module _ (k a b : ℕ) (t : List Row) (enough : enough? k a b ≡ true) (plain : Plainly k (places-for set b) (places-for rel a) t) where
+module _ (k a b : ℕ) (t : List Expected) (enough : enough? k a b ≡ true) (plain : Plainly k (places-for set b) (places-for rel a) t) where
   accepted : (M : Memories) → length (M .relations) ≡ a → length (M .sets) ≡ b → step (new-store k) M .answer ≡ Handle (top-of k)
   unfolding step
   accepted M ea eb =
@@ -118,6 +118,6 @@ worked = record {
   short-relations = new-refused 1 13 3 UsedUp (λ M ea eb. full-relations 1 13 3 M ea eb (omega arith) (omega arith) (omega arith) 2 1 refl refl (omega arith));
   short-sets = new-refused 1 14 2 UsedUp (λ M ea eb. full-sets 1 14 2 M ea eb (omega arith) (omega arith) (omega arith) 0 1 refl refl (omega arith));
   policies = begins 1 14 3 (without-new faults) refl (texts-plain .0);
-  listed = begins 1 22 3 (without-new lines) refl (texts-plain .1);
+  listed = begins 1 22 3 (without-new lister-lines) refl (texts-plain .1);
   ordered = begins 2 146 21 (without-new two-fields) refl (calls-plain .2);
 }

@@ -25,36 +25,36 @@ use Rattle.theorems.specs.AllCalls.{AnyCall, call, policy, AnyAnswer, an
 use Rattle.theorems.specs.Lists.{steps}
 
 -- ROWS of a table: a call and its answer, which may be a handle, yes or no, or a refusal
-abbrev pub Row : Type 0
-Row = AnyCall × AnyAnswer
+abbrev pub Expected : Type 0
+Expected = AnyCall × AnyAnswer
 
-abbrev pub row : Call → Answer → Row
-row c a = (call c, answered a)
+abbrev pub expects : Call → Answer → Expected
+expects c a = (call c, answered a)
 
-abbrev pub yields : Call → ℕ → Row
-yields c h = row c (Handle h)
+abbrev pub yields : Call → ℕ → Expected
+yields c h = expects c (Handle h)
 
-abbrev pub decides : Call → Bool → Row
-decides c b = row c (Truth b)
+abbrev pub decides : Call → Bool → Expected
+decides c b = expects c (Truth b)
 
-abbrev pub refuses : Call → Refusal → Row
-refuses c r = row c (Declined r)
+abbrev pub refuses : Call → Refusal → Expected
+refuses c r = expects c (Declined r)
 
 -- a text with its handle, or with its fault and the offset
-abbrev pub text-yields : List ℕ → ℕ → Row
+abbrev pub text-yields : List ℕ → ℕ → Expected
 text-yields t h = (policy t, read (P.Handle h))
 
-abbrev pub text-refused : List ℕ → Fault → ℕ → Row
+abbrev pub text-refused : List ℕ → Fault → ℕ → Expected
 text-refused t f i = (policy t, read (P.Declined (At f i)))
 
 -- WHAT IS CLAIMED of a table: its calls, made one after the other on a relation memory of a numbers and a set memory of b, whatever is in
 -- them, have its answers
-abbrev pub TableRight : ℕ → ℕ → List Row → Type 0
+abbrev pub TableRight : ℕ → ℕ → List Expected → Type 0
 TableRight a b t =
     (M : Memories) → length (M .relations) ≡ a → length (M .sets) ≡ b → steps all-calls (map (λ w. w .0) t) M .answers ≡ map (λ w. w .1) t
 
 -- THE TABLES. 01: "One store, k = 1, in this order."
-abbrev pub one-field : List Row
+abbrev pub one-field : List Expected
 one-field =
     -- P1 `new`: zero 2, one 3, top 4
     yields (new-store 1) 4
@@ -75,7 +75,7 @@ one-field =
     ∷ yields (relation-call (R.Flip 9)) 10
     -- P9 `star(9)` 11, node (1,0,1,1)
     ∷ yields (relation-call (R.Star 9)) 11
-    ∷ row (relation-read (RR.Get 11)) (RelationNode 1 0 1 1)
+    ∷ expects (relation-read (RR.Get 11)) (RelationNode 1 0 1 1)
     -- P10 `complement(3)` 12
     ∷ yields (relation-call (R.Complement 3)) 12
     -- P11 `star(12)` 4
@@ -91,11 +91,11 @@ one-field =
     ∷ []
 
 -- 01: "k = 0: zero 0, one 1, top 1."
-abbrev pub no-field : List Row
+abbrev pub no-field : List Expected
 no-field = yields (new-store 0) 1 ∷ yields (relation-call R.Zero) 0 ∷ yields (relation-call R.One) 1 ∷ yields (relation-call R.Top) 1 ∷ []
 
 -- 01: "Texts at k = 1: empty is 7 at 0; `x00=1` is 7 at 2; `!x0:=1` is 8 at 0."
-abbrev pub faults : List Row
+abbrev pub faults : List Expected
 faults =
     yields (new-store 1) 4
     ∷ text-refused [] NotPolicy 0
@@ -104,8 +104,8 @@ faults =
     ∷ []
 
 -- 01, the lister's lines: "For input lines `1`, `x0=0+x0=1`, `1`, `x0=5`": handle 3, handle 3, 7 at 3
-abbrev pub lines : List Row
-lines =
+abbrev pub lister-lines : List Expected
+lister-lines =
     yields (new-store 1) 4
     ∷ text-yields (120 ∷ 48 ∷ 61 ∷ 48 ∷ 43 ∷ 120 ∷ 48 ∷ 61 ∷ 49 ∷ []) 3
     ∷ text-yields (49 ∷ []) 3
@@ -114,7 +114,7 @@ lines =
 
 -- calls at k = 2 with the answers that the Rust gives (oracle/), every call but `policy` in it or above: the order of creation and the shortcuts
 -- decide the handles
-abbrev pub two-fields : List Row
+abbrev pub two-fields : List Expected
 two-fields =
     yields (new-store 2) 7
     ∷ yields (relation-call (R.Test 0 1)) 8
@@ -155,11 +155,11 @@ two-fields =
     ∷ yields (set-call T.One) 5
     ∷ yields (set-call (T.Mk 6 7)) 20
     -- and those that add nothing
-    ∷ row (relation-read (RR.Get 37)) (RelationNode 2 4 2 6)
+    ∷ expects (relation-read (RR.Get 37)) (RelationNode 2 4 2 6)
     ∷ decides (relation-read (RR.IsZero 37)) false
     ∷ decides (relation-read (RR.Relates 37 0 2)) true
     ∷ decides (relation-read (RR.Relates 37 2 0)) false
-    ∷ row (set-read (TR.Get 19)) (SetNode 7 3)
+    ∷ expects (set-read (TR.Get 19)) (SetNode 7 3)
     ∷ yields (set-read (TR.Complement 18)) 19
     ∷ decides (set-read (TR.IsZero 4)) true
     ∷ decides (set-read (TR.Intersects 14 8)) true
@@ -182,5 +182,5 @@ pub record Worked : Type 0 where
   pub short-relations : TableRight 13 3 (refuses (new-store 1) UsedUp ∷ [])
   pub short-sets : TableRight 14 2 (refuses (new-store 1) UsedUp ∷ [])
   pub policies : TableRight 14 3 faults
-  pub listed : TableRight 22 3 lines
+  pub listed : TableRight 22 3 lister-lines
   pub ordered : TableRight 146 21 two-fields

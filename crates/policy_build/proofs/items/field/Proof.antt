@@ -4,7 +4,8 @@ use Prim.Native.Nat.{_-_}
 use native.Mathlib.Omega.{arith}
 use borrow.Author.Needs.{needs}
 use borrow.Author.Tests.{not-true, not-false}
-use Rattle.policy_build.proofs.Digits.{Digit, is-digit, no-digit, reads-none, reads-one, reads-two}
+use Rattle.policy_text.specs.Lexicon.{Digit}
+use Rattle.policy_build.proofs.Digits.{is-digit, no-digit, reads-none, reads-one, reads-two}
 use Rattle.policy_build.proofs.items.field.Statement.{statement}
 use Rattle.policy_build.proofs.items.field.Tie as tie
 
