@@ -94,9 +94,9 @@ module _ (K : Kind) (M : Memories) (w : List ℕ) (Y : CheckedStore K M w) (n : 
       pub reading-low : l ≤ 32
       reading-low = check-low M (Y .store) (Z .check) r G l e
 
-      pub reading-told : {Q : Condition} → Q (decode M) → (l′ : ℕ) (a : A) → l′ ≡ l
+      pub reading-known : {Q : Condition} → Q (decode M) → (l′ : ℕ) (a : A) → l′ ≡ l
           → AnsweredOn Q K (part-of K M) w n (λ S. Z .needs S l′) (λ S. Z .answer S l′) a → outcome a M ≡ t M
-      reading-told on l′ a el T =
+      reading-known on l′ a el T =
           let H = ready-here K M w n Y en in
           let s = subst (λ S. Z .needs S l′) (sym (H .nodes))
           (subst (Z .needs (decode M)) (sym el) (Z .safe (fields M) (decode M) l (Y .store .formed) (G .says ∙ e))) in

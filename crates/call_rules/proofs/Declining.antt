@@ -110,7 +110,7 @@ not-runs e = subst Runs (sym e) tt
 -- what a call runs, it runs at its operands' level
 pub record Went (c : Check) (f : ℕ → Prog) (p : Prog) : Type 0 where
   pub level : ℕ
-  pub goes : c ≡ Level level
+  pub checks : c ≡ Level level
   pub program : f level ≡ p
 
 module _ {A : Type 0} (refuse : Refusal → A) (c : Check) where
@@ -118,7 +118,7 @@ module _ {A : Type 0} (refuse : Refusal → A) (c : Check) where
   declined-runs f h p g e = by-check c refl e
     where
       by-check : (d : Check) → c ≡ d → unless-declined refuse d (λ l. runs (f l) h) ≡ runs p g → Went c f p
-      by-check (Level l) q e = record { level = l; goes = q; program = ap program-in e }
+      by-check (Level l) q e = record { level = l; checks = q; program = ap program-in e }
       by-check (No r) q e = absurd (not-runs e)
 
   -- a call that answers runs nothing

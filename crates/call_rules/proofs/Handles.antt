@@ -95,9 +95,9 @@ all-four true false c d e = absurd (false≢true e)
 all-four false b c d e = absurd (false≢true e)
 
 -- the level that `level` finds
-pub level-told : {c k h r : ℕ} (K : Kind) (B : Store) (m : List ℕ) (n : ℕ) → LevelIs m c k h r → c ≡ arity K → n ≤ places (arity K) m
+pub level-known : {c k h r : ℕ} (K : Kind) (B : Store) (m : List ℕ) (n : ℕ) → LevelIs m c k h r → c ≡ arity K → n ≤ places (arity K) m
     → WellFormed k (plain K B m n) → is-held K (plain K B m n) h ≡ true → r ≡ level-of k K (plain K B m n) h
-level-told K B m n L e f F t = let u = held-here K F _ t in L K B n _ e (subst (λ c. n ≤ places c m) (sym e) f) (u .1) (u .0)
+level-known K B m n L e f F t = let u = held-here K F _ t in L K B n _ e (subst (λ c. n ≤ places c m) (sym e) f) (u .1) (u .0)
 
 -- a check X that is r, and one more test t where it passes
 module _ {X r : Check} (q : Refusal) (t : ℕ → Bool) (C : X ≡ r) where

@@ -118,7 +118,7 @@ module _ (M : Memories) (s : IsStore M) where
       let a = other-here set n en in
       let b = other-here rel j ej in
       let e : both rel (part-of rel M) n (part-of set M) j ≡ decode M = λ i. record { sets = sym (b .read) i; rels = sym (a .read) i } in
-      subst (λ S. ChecksIn (fields M) S check r) e (C .goes (a .within) (b .within) (subst (WellFormed (fields M)) (sym e) (s .formed)))
+      subst (λ S. ChecksIn (fields M) S check r) e (C .checks (a .within) (b .within) (subst (WellFormed (fields M)) (sym e) (s .formed)))
 
 -- A PROGRAM of the kind K
 module _ (K : Kind) (M : Memories) (w : List ℕ) (Y : CheckedStore K M w) (n : ℕ) (en : n ≡ count K (memory K M)) where

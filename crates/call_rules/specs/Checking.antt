@@ -32,7 +32,7 @@ pub record Checks (K : Kind) (m : List ℕ) (n k : ℕ) (check : Store → Check
 
 -- the same over the first n relations of o and the first j sets of t
 pub record ChecksBoth (o : List ℕ) (n : ℕ) (t : List ℕ) (j k : ℕ) (check : Store → Check) (r : Check) : Type 0 where
-  pub goes : n ≤ places 4 o → j ≤ places 2 t → WellFormed k (both rel o n t j) → ChecksIn k (both rel o n t j) check r
+  pub checks : n ≤ places 4 o → j ≤ places 2 t → WellFormed k (both rel o n t j) → ChecksIn k (both rel o n t j) check r
 
 -- whether three held handles are at level l
 abbrev pub AllAt : List ℕ → ℕ → ℕ → ℕ → ℕ → ℕ → ℕ → Bool → Type 0

@@ -34,7 +34,7 @@ module _ {K : Kind} {o m w : List ℕ} {j : ℕ} where
     outcome : {B : Store} {n : ℕ} → OtherNodes K o j B → Right K B w m n → Held (other K) (plain K B m n) l h → Has (other K) (plain K B m n) l h r
     outcome {B} {n} c R s =
         let e = other-same K m n c in
-        subst (λ T. Has (other K) T l h r) e (t .tells (R .fields) (plain K B m n) j (c .within) (subst (WellFormed (R .fields)) (sym e) (R .formed))
+        subst (λ T. Has (other K) T l h r) e (t .knows (R .fields) (plain K B m n) j (c .within) (subst (WellFormed (R .fields)) (sym e) (R .formed))
         (subst (Words w) (sym e) (R .words)) (subst (λ T. Held (other K) T l h) (sym e) s))
 
     -- tests on the known properties of a handle of the other kind

@@ -209,14 +209,14 @@ less-says e = record { decides = λ B c n l R s. e }
 
 module _ {Q : Condition} {K : Kind} {m w : List ℕ} {l h : ℕ} {r : Properties} {v : Bool} (T′ : KnowsProperties K m w l h r) where
   pub empty-says : r .empty ≡ v → TestIs Q K m w (has isEmpty K l h) v
-  empty-says e = record { decides = λ B c n i R s. T′ .tells (R .fields) B n i (R .formed) (R .words) s .empty ∙ e }
+  empty-says e = record { decides = λ B c n i R s. T′ .knows (R .fields) B n i (R .formed) (R .words) s .empty ∙ e }
 
   pub universal-says : r .universal ≡ v → TestIs Q K m w (has isUniversal K l h) v
-  universal-says e = record { decides = λ B c n i R s. T′ .tells (R .fields) B n i (R .formed) (R .words) s .universal ∙ e }
+  universal-says e = record { decides = λ B c n i R s. T′ .knows (R .fields) B n i (R .formed) (R .words) s .universal ∙ e }
 
 pub identity-says : {Q : Condition} {m w : List ℕ} {l h : ℕ} {r : Properties} {v : Bool} → KnowsProperties rel m w l h r → r .identity ≡ v
     → TestIs Q rel m w (has isIdentity rel l h) v
-identity-says A e = record { decides = λ B c n i R s. A .tells (R .fields) B n i (R .formed) (R .words) s .identity refl ∙ e }
+identity-says A e = record { decides = λ B c n i R s. A .knows (R .fields) B n i (R .formed) (R .words) s .identity refl ∙ e }
 
 -- a number is given, after a failure or not
 pub performs-ret : {Q : Condition} {K : Kind} {s r : RunState} {m w : List ℕ} (h : ℕ) → r ≡ run-state (s .ok) (s .n) h → PerformsOn Q K (ret h) s m m w w r

@@ -112,13 +112,13 @@ pub record JoinsAs (x : List ℕ) (s : RunState) (m m′ w w′ : List ℕ) (r :
   pub small : r .h < most-places
   pub node : (K : Kind) (y : List ℕ) → length x ≡ arity K → x ≡ stored K y → Joins K y s m m′ w w′ r
 
--- a look: x is what the children of h are, where it has a node
+-- x are the children of h, where it has a node
 pub record ReadsChildren (K : Kind) (m : List ℕ) (h : ℕ) (x : List ℕ) : Type 0 where
   pub kids : (B : Store) (n : ℕ) → n ≤ places (arity K) m → Within K (plain K B m n) h → get K (plain K B m n) h ≡ x
 
--- the properties of a handle of level l
+-- r has the properties of h, of level l
 pub record KnowsProperties (K : Kind) (m w : List ℕ) (l h : ℕ) (r : Properties) : Type 0 where
-  pub tells : (k : ℕ) (B : Store) (n : ℕ) → n ≤ places (arity K) m → WellFormed k (plain K B m n) → Words w (plain K B m n) → Held K (plain K B m n) l h
+  pub knows : (k : ℕ) (B : Store) (n : ℕ) → n ≤ places (arity K) m → WellFormed k (plain K B m n) → Words w (plain K B m n) → Held K (plain K B m n) l h
       → Has K (plain K B m n) l h r
 
 -- what the memo w holds on an operation

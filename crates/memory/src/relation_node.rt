@@ -97,7 +97,7 @@ fn note(work: &mut [u32], n: usize, x00: u32, x01: u32, x10: u32, x11: u32)
     crate::property_words::write(work, 4, n, v);
 }
 
-// The place of the node: the one where it is held, or the next one. Without an index it goes the way of all nodes.
+// The place of the node: the one where it is held, or the next one. Without an index it is joined as the nodes of any kind are.
 pub fn join(
     nodes: &mut [u32],
     work: &mut [u32],

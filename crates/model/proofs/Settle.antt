@@ -58,10 +58,10 @@ record InPlace (x : List ℕ) (N : Nodes) : Type 0 where
   still : place x (having x N) ≡ place x N
   inside : place x N < length (having x N)
 
-stands : (x : List ℕ) (N : Nodes) → InPlace x N
+in-place : (x : List ℕ) (N : Nodes) → InPlace x N
 unfolding place having
-stands x [] = record { still = rw (same-node-yes x); inside = omega arith }
-stands x (y ∷ N) = go (same-node x y) refl (stands x N)
+in-place x [] = record { still = rw (same-node-yes x); inside = omega arith }
+in-place x (y ∷ N) = go (same-node x y) refl (in-place x N)
   where
     go : (b : Bool) → same-node x y ≡ b → InPlace x N → InPlace x (y ∷ N)
     go true e f = record { still = rw (e, e); inside = rw e (omega arith) }
@@ -71,11 +71,11 @@ stands x (y ∷ N) = go (same-node x y) refl (stands x N)
 module _ (x : List ℕ) (N M : Nodes) where
   place-kept : place x (having x N ++ M) ≡ place x N
   place-kept =
-      let lt : place x (having x N) < length (having x N) = rw (stands x N .still) (stands x N .inside) in
-      place-found x (having x N) M lt ∙ stands x N .still
+      let lt : place x (having x N) < length (having x N) = rw (in-place x N .still) (in-place x N .inside) in
+      place-found x (having x N) M lt ∙ in-place x N .still
 
   having-kept : having x (having x N ++ M) ≡ having x N ++ M
-  having-kept = having-found x (having x N ++ M) (omega (arith, place-kept, stands x N .inside, length-append (having x N) M))
+  having-kept = having-found x (having x N ++ M) (omega (arith, place-kept, in-place x N .inside, length-append (having x N) M))
 
 -- EXTENSIONS
 pub run-ext : (p : Prog) (S : Store) → Extends S (run p S .store)

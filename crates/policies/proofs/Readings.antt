@@ -21,17 +21,17 @@ pub record Carries (r : Reading) (a : PolicyAnswer) : Type 0 where
   pub refusal : policy-refusal a ≡ reading-refusal r
   pub values : policy-values a ≡ reading-values r
 
-pub refusal-told : (k : ℕ) (t : List ℕ) (r : Reading) → ¬ (reading-refusal r ≡ 0) → (a : PolicyAnswer) × (of-reading k t r ≡ gives a) × Carries r a
+pub refusal-known : (k : ℕ) (t : List ℕ) (r : Reading) → ¬ (reading-refusal r ≡ 0) → (a : PolicyAnswer) × (of-reading k t r ≡ gives a) × Carries r a
 unfolding of-reading
-refusal-told k t Policy n = absurd (n refl)
-refusal-told k t (NotPolicy i) n = (_, refl, record { refusal = refl; values = refl })
-refusal-told k t (TooDeep i) n = (_, refl, record { refusal = refl; values = refl })
-refusal-told k t (NoField i) n = (_, refl, record { refusal = refl; values = refl })
-refusal-told k t (NotPredicate i) n = (_, refl, record { refusal = refl; values = refl })
+refusal-known k t Policy n = absurd (n refl)
+refusal-known k t (NotPolicy i) n = (_, refl, record { refusal = refl; values = refl })
+refusal-known k t (TooDeep i) n = (_, refl, record { refusal = refl; values = refl })
+refusal-known k t (NoField i) n = (_, refl, record { refusal = refl; values = refl })
+refusal-known k t (NotPredicate i) n = (_, refl, record { refusal = refl; values = refl })
 
-pub reading-told : (t : List ℕ) (M : Memories) → IsStore M → short? t ≡ true → (r : Reading) → reading x-forms (fields M) t ≡ r → ¬ (reading-refusal r ≡ 0)
+pub reading-known : (t : List ℕ) (M : Memories) → IsStore M → short? t ≡ true → (r : Reading) → reading x-forms (fields M) t ≡ r → ¬ (reading-refusal r ≡ 0)
     → Carries r (policy-step t M .answer) × (policy-step t M .state ≡ M)
-reading-told t M s h r e n =
-    let w = refusal-told (fields M) t r n in
+reading-known t M s h r e n =
+    let w = refusal-known (fields M) t r n in
     let f = policy-refused t M s (w .0) (short-verdict (fields M) t (decode M) r h e ∙ w .1) in
     subst (λ (x : Outcome PolicyAnswer Memories). Carries r (x .answer) × (x .state ≡ M)) f (w .2, refl)

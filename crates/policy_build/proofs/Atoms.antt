@@ -49,25 +49,25 @@ module _ {k : ℕ} {t : List ℕ} {at : ℕ} {s : RunState} {m m₁ w w₁ : Lis
       → (x : Policy) (rest : List ℕ) → By t at rest 33 x → BuildsPart k t x rest s m m₃ w w₃ (built r (p .end))
   unfolding policy-program
   negation-part B O D x rest (by-neg d u A h) = let i = B .part d u _ rest A h tt in
-      record { stands = i .stands; performs = performs-then (i .performs) (performs-then O D) }
+      record { text-left = i .text-left; performs = performs-then (i .performs) (performs-then O D) }
 
   -- `(` sum `)`
   paren-part : {p : Built} {end : ℕ} → Builds (Sum x-forms) after-sum k t (at + 1) s m m₁ w w₁ p → Past t (p .end) end
       → (x : Policy) (rest : List ℕ) → By t at rest 40 x → BuildsPart k t x rest s m m₁ w w₁ (built (p .made) end)
   paren-part {p} B E x rest (by-paren d u A h) =
       let i = B .part d u _ (41 ∷ rest) A h (λ e. omega (arith, e), λ e. omega (arith, e), λ e. omega (arith, e)) in
-      record { stands = E .rest ∙ next t (p .end) (i .stands); performs = i .performs }
+      record { text-left = E .rest ∙ next t (p .end) (i .text-left); performs = i .performs }
 
   -- `0` and `1`
   zero-part : {r : RunState} {end : ℕ} → Past t at end → Performs rel (zero-at-depth rel k) s m m₁ w w₁ r
       → (x : Policy) (rest : List ℕ) → By t at rest 48 x → BuildsPart k t x rest s m m₁ w w₁ (built r end)
   unfolding policy-program
-  zero-part E P x rest (by-zero h) = record { stands = E .rest ∙ h; performs = P }
+  zero-part E P x rest (by-zero h) = record { text-left = E .rest ∙ h; performs = P }
 
   one-part : {r : RunState} {end : ℕ} → Past t at end → Performs rel (one-at-depth rel k) s m m₁ w w₁ r
       → (x : Policy) (rest : List ℕ) → By t at rest 49 x → BuildsPart k t x rest s m m₁ w w₁ (built r end)
   unfolding policy-program
-  one-part E P x rest (by-one h) = record { stands = E .rest ∙ h; performs = P }
+  one-part E P x rest (by-one h) = record { text-left = E .rest ∙ h; performs = P }
 
   pub negation-builds : {m₂ m₃ w₂ w₃ : List ℕ} {p : Built} {one r : RunState} → getD t at 0 ≡ 33 → Builds (Atom x-forms) after-atom k t (at + 1) s m m₁ w w₁ p
       → Performs rel (one-at-depth rel k) (p .made) m₁ m₂ w₁ w₂ one → Performs rel (difference rel k (one .h) (p .made .h)) one m₂ m₃ w₂ w₃ r

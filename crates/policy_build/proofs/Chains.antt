@@ -110,12 +110,12 @@ pub record Next (b : ℕ) (St : ChainStep) (t : List ℕ) (e : ℕ) (q p : Polic
   pub steps : List ℕ
   pub by : St q step to
   pub chain : Chain b St to steps p
-  pub stands : drop (e + 1) t ≡ step ++ (steps ++ rest)
+  pub text-left : drop (e + 1) t ≡ step ++ (steps ++ rest)
 
 module _ {b : ℕ} {St : ChainStep} (t : List ℕ) (e : ℕ) {rest : List ℕ} where
   pub chain-next : {q p : Policy} {v : List ℕ} → Chain b St q v p → drop e t ≡ v ++ rest → ¬ (getD rest 0 0 ≡ b) → getD t e 0 ≡ b → Next b St t e q p rest
   chain-next stop h n f = absurd (n (sym (first-of t e h) ∙ f))
-  chain-next (go {u = u} {v} s c) h n f = record { step = u; to = _; steps = v; by = s; chain = c; stands = next t e h ∙ append-assoc u v rest }
+  chain-next (go {u = u} {v} s c) h n f = record { step = u; to = _; steps = v; by = s; chain = c; text-left = next t e h ∙ append-assoc u v rest }
 
   pub chain-end : {q p : Policy} {v : List ℕ} → Chain b St q v p → drop e t ≡ v ++ rest → ¬ (getD t e 0 ≡ b) → (q ≡ p) × (drop e t ≡ rest)
   chain-end stop h n = (refl, h)

@@ -48,7 +48,7 @@ pub record OnWay (b : ℕ) (St : ChainStep) (k : ℕ) (t : List ℕ) (p : Policy
   pub so-far : Policy
   pub ahead : List ℕ
   pub chain : Chain b St so-far ahead p
-  pub stands : drop (r .end) t ≡ ahead ++ rest
+  pub text-left : drop (r .end) t ≡ ahead ++ rest
   pub performs : Performs rel (policy-program k so-far) s m m′ w w′ (r .made)
 
 -- what the loop keeps
@@ -68,15 +68,15 @@ module _ {G Item : Rank} {After Below : ℕ → Type 0} {b : ℕ} {St : ℕ → 
     way = λ d u p rest g h n. let a = L .begun d u p g in
         let i = B .part d (a .first) (a .begin) (a .steps ++ rest) (a .item) (h ∙ ap (λ x. x ++ rest) (a .whole) ∙ append-assoc (a .first) (a .steps) rest)
         (chain-first Below rest (a .chain) (L .starts) (L .below _ n)) in
-        record { so-far = a .begin; ahead = a .steps; chain = a .chain; stands = i .stands; performs = i .performs };
+        record { so-far = a .begin; ahead = a .steps; chain = a .chain; text-left = i .text-left; performs = i .performs };
   }
 
   loop-ends : Looping G After b St k t at s m m′ w w′ r → ¬ (getD t (r .end) 0 ≡ b) → Builds G After k t at s m m′ w w′ r
   loop-ends B f = record {
     from = B .from;
     within = B .within;
-    part = λ d u p rest g h n. let o = B .way d u p rest g h n in let e = chain-end t (r .end) (o .chain) (o .stands) f in
-        record { stands = e .1; performs = subst (λ q. Performs rel (policy-program k q) s m m′ w w′ (r .made)) (e .0) (o .performs) };
+    part = λ d u p rest g h n. let o = B .way d u p rest g h n in let e = chain-end t (r .end) (o .chain) (o .text-left) f in
+        record { text-left = e .1; performs = subst (λ q. Performs rel (policy-program k q) s m m′ w w′ (r .made)) (e .0) (o .performs) };
   }
 
 -- what the turns keep, from where the loop began (m₀, w₀, r₀): whatever was being read and built there still is
@@ -109,13 +109,13 @@ module _ {G Item : Rank} {After Below : ℕ → Type 0} {b : ℕ} {join : Policy
     within = omega (arith, I .within, e);
     way = λ d u x rest g h n.
         let o = B .way d u x rest g h n in
-        let a = chain-next t (p .end) (o .chain) (o .stands) (L .apart _ n) f in
-        let i = I .part d (a .step) (a .by .0) (a .steps ++ rest) (a .by .1) (a .stands) (chain-first Below rest (a .chain) (L .starts) (L .below _ n)) in
+        let a = chain-next t (p .end) (o .chain) (o .text-left) (L .apart _ n) f in
+        let i = I .part d (a .step) (a .by .0) (a .steps ++ rest) (a .by .1) (a .text-left) (chain-first Below rest (a .chain) (L .starts) (L .below _ n)) in
         record {
           so-far = a .to;
           ahead = a .steps;
           chain = a .chain;
-          stands = ap (λ n. drop n t) e ∙ i .stands;
+          text-left = ap (λ n. drop n t) e ∙ i .text-left;
           performs = performs-by (ap (policy-program k) (a .by .2) ∙ program (o .so-far) (a .by .0))
               (performs-then (o .performs) (performs-then (i .performs) P));
         };
@@ -145,12 +145,12 @@ module _ {X : Lexicon} {k : ℕ} {t : List ℕ} {at : ℕ} {m₁ m₂ w₁ w₂ 
     within = omega (arith, l, e);
     way = λ d u x rest g h n.
         let o = B .way d u x rest g h n in
-        let a = chain-next t (p .end) (o .chain) (o .stands) n f in
+        let a = chain-next t (p .end) (o .chain) (o .text-left) n f in
         record {
           so-far = a .to;
           ahead = a .steps;
           chain = a .chain;
-          stands = ap (λ n. drop n t) e ∙ a .stands ∙ ap (λ v. v ++ (a .steps ++ rest)) (a .by .0);
+          text-left = ap (λ n. drop n t) e ∙ a .text-left ∙ ap (λ v. v ++ (a .steps ++ rest)) (a .by .0);
           performs = performs-by (ap (policy-program k) (a .by .1)) (performs-then (o .performs) P);
         };
   }

@@ -50,7 +50,7 @@ module _ {k : ℕ} {t : List ℕ} {at : ℕ} {s : RunState} {m m′ w w′ : Lis
       let i = F .reads (61 ∷ c ∷ rest) N h (omega arith) in
       let j : drop next₁ t ≡ c ∷ rest = P₁ .rest ∙ next t (f .end) (i .1) in
       let e : value ≡ v = Y ∙ ap (λ b. eqb b 49) (first-is t next₁ j) ∙ bit-is B in
-      record { stands = P₂ .rest ∙ next t next₁ j; performs = subst₂ (λ n v. Performs rel (test rel k n v) s m m′ w w′ r) (i .0) e X }
+      record { text-left = P₂ .rest ∙ next t next₁ j; performs = subst₂ (λ n v. Performs rel (test rel k n v) s m m′ w w′ r) (i .0) e X }
 
   -- the field, `:=` and the value
   assign-part : {next₁ next₂ end : ℕ} → Past t (f .end) next₁ → ¬ (getD t (f .end) 0 ≡ 61) → Past t next₁ next₂ → value ≡ eqb (getD t next₂ 0) 49
@@ -63,7 +63,7 @@ module _ {k : ℕ} {t : List ℕ} {at : ℕ} {s : RunState} {m m′ w w′ : Lis
       let i = F .reads (58 ∷ 61 ∷ c ∷ rest) N h (omega arith) in
       let j : drop next₂ t ≡ c ∷ rest = P₂ .rest ∙ next t next₁ (P₁ .rest ∙ next t (f .end) (i .1)) in
       let e : value ≡ v = Y ∙ ap (λ b. eqb b 49) (first-is t next₂ j) ∙ bit-is B in
-      record { stands = P₃ .rest ∙ next t next₂ j; performs = subst₂ (λ n v. Performs rel (assign k n v) s m m′ w w′ r) (i .0) e X }
+      record { text-left = P₃ .rest ∙ next t next₂ j; performs = subst₂ (λ n v. Performs rel (assign k n v) s m m′ w w′ r) (i .0) e X }
 
   pub test-builds : {next₁ end : ℕ} → Past t (f .end) next₁ → getD t (f .end) 0 ≡ 61 → value ≡ eqb (getD t next₁ 0) 49 → Past t next₁ end
       → Performs rel (test rel k (f .value) value) s m m′ w w′ r → Builds Named after-atom k t at s m m′ w w′ (built r end)

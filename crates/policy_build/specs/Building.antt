@@ -38,7 +38,7 @@ after-sum b = (¬ (b ≡ 42)) × (¬ (b ≡ 59)) × (¬ (b ≡ 43))
 
 -- the text was read up to rest, and p's program run
 pub record BuildsPart (k : ℕ) (t : List ℕ) (p : Policy) (rest : List ℕ) (s : RunState) (m m′ w w′ : List ℕ) (r : Built) : Type 0 where
-  pub stands : drop (r .end) t ≡ rest
+  pub text-left : drop (r .end) t ≡ rest
   pub performs : Performs rel (policy-program k p) s m m′ w w′ (r .made)
 
 -- so it is for every part of the rank that begins at this offset

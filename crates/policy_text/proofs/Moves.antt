@@ -184,11 +184,11 @@ module _ (X : Lexicon) where
     join-stop g h d at e f a = (a .0, a .1, (λ l. f l (a .2 l)), a .3)
 
     -- the same of a result that is known
-    pub join-told : (g : ℕ → Bool) (d at e : ℕ) (x : Read) → x ≡ End e → JoinPost X g t d at x → JoinPost X g t d at (End e)
-    join-told g d at e x h a = subst (λ (y : Read). JoinPost X g t d at y) h a
+    pub join-known : (g : ℕ → Bool) (d at e : ℕ) (x : Read) → x ≡ End e → JoinPost X g t d at x → JoinPost X g t d at (End e)
+    join-known g d at e x h a = subst (λ (y : Read). JoinPost X g t d at y) h a
 
-    pub atom-told : (d at e : ℕ) (q : Open) (x : Read) → x ≡ End e → AtomPost X t d q at x → AtomPost X t d q at (End e)
-    atom-told d at e q x h a = subst (λ (y : Read). AtomPost X t d q at y) h a
+    pub atom-known : (d at e : ℕ) (q : Open) (x : Read) → x ≡ End e → AtomPost X t d q at x → AtomPost X t d q at (End e)
+    atom-known d at e q x h a = subst (λ (y : Read). AtomPost X t d q at y) h a
 
     pub join-lt : (g : ℕ → Bool) (d at e : ℕ) → JoinPost X g t d at (End e) → (e ≡ length t → ⊥) → e < length t
     unfolding JoinPost

@@ -42,10 +42,10 @@ continues-sum b = (eqb b 42 || eqb b 59) || eqb b 43
 
 -- from the start of an operand at `at`, nested d deep, the text reads up to e, where no byte follows that makes it longer, or it is refused
 unfoldable pub JoinPost : Lexicon → (ℕ → Bool) → List ℕ → ℕ → ℕ → Read → Type 0
-JoinPost X goes t d at (End e) = (at ≤ e) × (e ≤ length t) × (e < length t → goes (getD t e 0) ≡ false)
+JoinPost X longer t d at (End e) = (at ≤ e) × (e ≤ length t) × (e < length t → longer (getD t e 0) ≡ false)
     × ((sa pa : Acc) (σ : List Frame) → nesting σ ≡ d → (sb pb : Acc) × (v : Policy) × (scan-at X t (need sa pa 0 σ) at ≡ scan-at X t (post v sb pb σ) e))
-JoinPost X goes t d at (Bad i) = (sa pa : Acc) (σ : List Frame) → nesting σ ≡ d → scan-at X t (need sa pa 0 σ) at ≡ bad i
-JoinPost X goes t d at (Deep i) = (sa pa : Acc) (σ : List Frame) → nesting σ ≡ d → scan-at X t (need sa pa 0 σ) at ≡ deep i
+JoinPost X longer t d at (Bad i) = (sa pa : Acc) (σ : List Frame) → nesting σ ≡ d → scan-at X t (need sa pa 0 σ) at ≡ bad i
+JoinPost X longer t d at (Deep i) = (sa pa : Acc) (σ : List Frame) → nesting σ ≡ d → scan-at X t (need sa pa 0 σ) at ≡ deep i
 
 -- the stars after an item
 unfoldable pub StarsPost : Lexicon → List ℕ → ℕ → ℕ → Type 0

@@ -18,12 +18,12 @@ use Rattle.relation_images.specs.Moves.{image-rest, ImageReduces}
 -- the program is its shortcuts
 pub tested : {Q : Condition} {p q whole node : Prog} {l : ℕ} {m w : List ℕ} {r : ImageShortcut} → p ≡ q → ImageReduces Q q l whole node m w r
     → ImageReduces Q p l whole node m w r
-tested e t = record { stands = further (by begin e) (t .stands) }
+tested e t = record { reduces = further (by begin e) (t .reduces) }
 
 -- each thing that they may leave
 module _ {Q : Condition} {p whole node : Prog} {l : ℕ} {m w : List ℕ} {r : ImageShortcut} (t : ImageReduces Q p l whole node m w r) where
   rest-left : {i : ImageShortcut} → r ≡ i → ReducesOn Q set p (image-rest l whole node i) m w
-  rest-left e = by (t .stands) (ap (image-rest l whole node) e)
+  rest-left e = by (t .reduces) (ap (image-rest l whole node) e)
 
   pub answer-left : {h : ℕ} → r ≡ Answer h → ReducesOn Q set p (ret h) m w
   answer-left e = rest-left e

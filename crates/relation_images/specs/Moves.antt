@@ -18,4 +18,4 @@ image-rest l whole node Node = node
 
 -- r says what is left of p
 pub record ImageReduces (Q : Condition) (p : Prog) (l : ℕ) (whole node : Prog) (m w : List ℕ) (r : ImageShortcut) : Type 0 where
-  pub stands : ReducesOn Q set p (image-rest l whole node r) m w
+  pub reduces : ReducesOn Q set p (image-rest l whole node r) m w

@@ -81,7 +81,7 @@ path-opened l p a q h X Z Y = read-of-other (looked (looked (by begin (path-open
 -- each thing that the shortcuts may leave
 module _ {Q : Condition} {t : Prog} {l p a q : ℕ} {m w : List ℕ} {r : PathShortcut} (u : PathReduces Q t l p a q m w r) where
   rest-left : {i : PathShortcut} → r ≡ i → ReducesOn Q set t (path-rest l p a q i) m w
-  rest-left e = by (u .stands) (ap (path-rest l p a q) e)
+  rest-left e = by (u .reduces) (ap (path-rest l p a q) e)
 
   pub answer-left : {h : ℕ} → r ≡ Answer h → ReducesOn Q set t (ret h) m w
   answer-left e = rest-left e

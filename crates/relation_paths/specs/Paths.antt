@@ -18,4 +18,4 @@ path-rest l p a q Node = has-path-node l p a q
 
 -- r says what is left of the program t
 pub record PathReduces (Q : Condition) (t : Prog) (l p a q : ℕ) (m w : List ℕ) (r : PathShortcut) : Type 0 where
-  pub stands : ReducesOn Q set t (path-rest l p a q r) m w
+  pub reduces : ReducesOn Q set t (path-rest l p a q r) m w

@@ -26,15 +26,15 @@ answers-later {p} {q} {node} {m} {w} {r} u a = record {
 module _ {p : Prog} {other : ℕ → Prog} {node : ℕ → ℕ → Prog} {m w : List ℕ} where
   pub shortcut-answer : {h : ℕ} → Reduces rel p (ret h) m w → TakesShortcut p other node m w (Answer h)
   unfolding run
-  shortcut-answer u = record { goes = λ B n i s R. u .left B tt n i s R .runs }
+  shortcut-answer u = record { takes = λ B n i s R. u .left B tt n i s R .runs }
 
   pub shortcut-delegate : {x : ℕ} → Reduces rel p (other x) m w → TakesShortcut p other node m w (Delegate x)
-  shortcut-delegate u = record { goes = λ B n i s R. u .left B tt n i s R }
+  shortcut-delegate u = record { takes = λ B n i s R. u .left B tt n i s R }
 
   pub shortcut-lookup : {q : Prog} {f : Lookup} {r : Shortcut} → Reduces rel p q m w → LooksUp rel q node m w f → r ≡ shortcut-of f
       → TakesShortcut p other node m w r
   shortcut-lookup {f = f} u a e = record {
-    goes = λ B n i s R. subst (λ z. by-shortcut p other node (plain rel B m n) z) (sym e) (go (plain rel B m n) f (answers-later u a .answers B tt n i s R));
+    takes = λ B n i s R. subst (λ z. by-shortcut p other node (plain rel B m n) z) (sym e) (go (plain rel B m n) f (answers-later u a .answers B tt n i s R));
   }
     where
       go : (S : Store) (f : Lookup) → looked-up p node S f → by-shortcut p other node S (shortcut-of f)
@@ -45,11 +45,11 @@ module _ {p : Prog} {other : ℕ → Prog} {node : ℕ → ℕ → Prog} {m w : 
     pub answer-left : {h : ℕ} → r ≡ Answer h → Reduces rel p (ret h) m w
     unfolding run Safe
     answer-left e = record {
-      left = λ B _ n i s R. record { runs = subst (λ z. by-shortcut p other node (plain rel B m n) z) e (g .goes B n i s R); safe = tt };
+      left = λ B _ n i s R. record { runs = subst (λ z. by-shortcut p other node (plain rel B m n) z) e (g .takes B n i s R); safe = tt };
     }
 
     pub other-left : {x : ℕ} → r ≡ Delegate x → Reduces rel p (other x) m w
-    other-left e = record { left = λ B _ n i s R. subst (λ z. by-shortcut p other node (plain rel B m n) z) e (g .goes B n i s R) }
+    other-left e = record { left = λ B _ n i s R. subst (λ z. by-shortcut p other node (plain rel B m n) z) e (g .takes B n i s R) }
 
     pub node-left : {x y : ℕ} → r ≡ Recurse x y → Reduces rel p (node x y) m w
-    node-left e = record { left = λ B _ n i s R. subst (λ z. by-shortcut p other node (plain rel B m n) z) e (g .goes B n i s R) }
+    node-left e = record { left = λ B _ n i s R. subst (λ z. by-shortcut p other node (plain rel B m n) z) e (g .takes B n i s R) }

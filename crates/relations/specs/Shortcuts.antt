@@ -21,7 +21,7 @@ by-shortcut p other node S (Delegate x) = ReducesTo p (other x) S
 by-shortcut p other node S (Recurse x y) = ReducesTo p (node x y) S
 
 pub record TakesShortcut (p : Prog) (other : ℕ → Prog) (node : ℕ → ℕ → Prog) (m w : List ℕ) (r : Shortcut) : Type 0 where
-  pub goes : (B : Store) (n : ℕ) → n ≤ places 4 m → Safe p (plain rel B m n) → Right rel B w m n → by-shortcut p other node (plain rel B m n) r
+  pub takes : (B : Store) (n : ℕ) → n ≤ places 4 m → Safe p (plain rel B m n) → Right rel B w m n → by-shortcut p other node (plain rel B m n) r
 
 abbrev pub shortcut-of : Lookup → Shortcut
 shortcut-of (lookup.Answer h) = Answer h

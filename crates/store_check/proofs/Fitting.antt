@@ -70,9 +70,9 @@ pub level-none : (K : Kind) (B : Store) (m : List ℕ) (k i : ℕ)
 level-none K B m k i o = record { so = λ l q. absurd (omega arith); found = λ l b f. absurd (o l b f) }
 
 -- the level in the node's word, where it says something
-pub level-told : (K : Kind) (B : Store) (m : List ℕ) (k i v r : ℕ) → 0 < v → r ≡ properties-in v .level → WellFormed k (plain K B m i) → Earlier K m i
+pub level-known : (K : Kind) (B : Store) (m : List ℕ) (k i v r : ℕ) → 0 < v → r ≡ properties-in v .level → WellFormed k (plain K B m i) → Earlier K m i
     → Above K (plain K B m i) m i v → LevelAbove k K (plain K B m i) m i r
-level-told K B m k i v r p e F E A = record {
+level-known K B m k i v r p e F E A = record {
   so = λ l q b d h.
       let a = child-level K B m i (getD m (arity K * i + d) 0) F (E d h) in
       let z : a .0 ≡ l = omega (arith, A p d (a .0) h (a .2)) in

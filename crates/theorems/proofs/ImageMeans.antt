@@ -29,7 +29,7 @@ use Rattle.theorems.proofs.CallMeans.{means}
 use Rattle.call_rules.proofs.Declining.{own, pair-passed, path-passed}
 use Rattle.store.proofs.ImageMeant.{image-does, filter-does}
 use Rattle.store.proofs.ImageSteps.{image-steps, filter-steps, path-steps}
-use Rattle.theorems.proofs.ReadMeans.{GivesOnly, tells-by, answer-has, yes}
+use Rattle.theorems.proofs.ReadMeans.{GivesOnly, gives-by, answer-has, yes}
 
 module _ {k : ℕ} {S : Store} (F : WellFormed k S) where
   path-refused : (c : PathRead) (r : Refusal) → path-meaning k c S (Declined r)
@@ -37,20 +37,20 @@ module _ {k : ℕ} {S : Store} (F : WellFormed k S) where
   path-refused (HasImage p a) r = tt
   path-refused (HasPath p a q) r = tt
 
-  path-goes : (c : PathRead) (l : ℕ) → path-declines k c S ≡ Level l → path-meaning k c S (path-answer S l c)
+  path-passes : (c : PathRead) (l : ℕ) → path-declines k c S ≡ Level l → path-meaning k c S (path-answer S l c)
   unfolding path-meaning
-  path-goes (HasImage p a) l e =
+  path-passes (HasImage p a) l e =
       let t = pair-passed F rel set a p e in
       subst (λ j. (eqb (run (has-image l p a) S .value) 1 ≡ true) ↔ Some j (λ x. Some j (λ y. contains S p x × relates S a x y))) (sym (t .0 .level))
       (Iff·trans (yes _) (has-image-does l p a F (t .0 .low) (own set S l p (t .1 .held)) (relates-own S l a (t .0 .held)) .after .post .means))
-  path-goes (HasPath p a q) l e =
+  path-passes (HasPath p a q) l e =
       let t = path-passed F p a q e in
       subst (λ j. (eqb (run (has-path l p a q) S .value) 1 ≡ true) ↔ Some j (λ x. Some j (λ y. contains S p x × relates S a x y × contains S q y)))
       (sym (t .1 .level)) (Iff·trans (yes _) (has-path-does l p a q F (t .1 .low)
       (own set S l p (t .0 .held)) (relates-own S l a (t .1 .held)) (own set S l q (t .2 .held)) .after .post .means))
 
-  pub path-tells : (c : PathRead) → GivesOnly (path-meaning k c S) (path-verdict c k S)
-  path-tells c = tells-by (path-meaning k c S) (path-declines k c S) (λ l. path-answer S l c) (path-refused c) (path-goes c)
+  pub path-gives : (c : PathRead) → GivesOnly (path-meaning k c S) (path-verdict c k S)
+  path-gives c = gives-by (path-meaning k c S) (path-declines k c S) (λ l. path-answer S l c) (path-refused c) (path-passes c)
 
 -- THE FACTS: of a call on a store, what the handle h that it gave means afterwards, or what its answer says
 pub image-call-means : (c : ImageCall) (M : Memories) (h : ℕ) → IsStore M → step (image-call c) M .answer ≡ Handle h
@@ -68,4 +68,4 @@ filter-call-means c M h s q = subst (λ t. filter-meaning (fields M) c (decode M
 pub path-read-means : (c : PathRead) (M : Memories) → IsStore M
     → path-meaning (fields M) c (decode M) (step (path-read c) M .answer) × (step (path-read c) M .state ≡ M)
 path-read-means c M s = subst (λ t. path-meaning (fields M) c (decode M) (t .answer) × (t .state ≡ M)) (sym (path-steps c M))
-    (answer-has Declined (path-verdict c) M s (path-meaning (fields M) c (decode M)) (path-tells (s .formed) c))
+    (answer-has Declined (path-verdict c) M s (path-meaning (fields M) c (decode M)) (path-gives (s .formed) c))

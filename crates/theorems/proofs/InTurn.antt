@@ -36,8 +36,8 @@ module _ {C A X : Type 0} (answer : C → X → A) (next : C → X → X) where
 
     -- where each call has Q, the second state moves along a preorder
     module _ (Q : C → X → Type 0) (G : Y → Y → Type 0) (same : (y : Y) → G y y) (then : (x y z : Y) → G x y → G y z → G x z)
-        (goes : (c : C) (x : X) (y : Y) → R x y → Q c x → G y (next′ c y)) where
-      pub turn-goes : (cs : List C) (x : X) (y : Y) → R x y → each-call next Q cs x → G y (in-turn answer′ next′ cs y .state)
+        (passes : (c : C) (x : X) (y : Y) → R x y → Q c x → G y (next′ c y)) where
+      pub turn-continues : (cs : List C) (x : X) (y : Y) → R x y → each-call next Q cs x → G y (in-turn answer′ next′ cs y .state)
       unfolding in-turn each-call
-      turn-goes [] x y r q = same y
-      turn-goes (c ∷ cs) x y r q = then _ _ _ (goes c x y r (q .0)) (turn-goes cs (next c x) (next′ c y) (kept c x y r .1) (q .1))
+      turn-continues [] x y r q = same y
+      turn-continues (c ∷ cs) x y r q = then _ _ _ (passes c x y r (q .0)) (turn-continues cs (next c x) (next′ c y) (kept c x y r .1) (q .1))

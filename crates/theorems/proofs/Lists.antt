@@ -11,16 +11,16 @@ use Rattle.theorems.specs.PlainStore.{Plain}
 use Rattle.store_check.specs.Memory.{Memories, decode}
 use Rattle.call_rules.specs.Outcome.{Outcome}
 use Rattle.call_rules.specs.declared.Answer.the-variants.{Handle}
-use Rattle.theorems.proofs.InTurn.{turn-parted, each-later, turn-answers, turn-kept, turn-goes}
+use Rattle.theorems.proofs.InTurn.{turn-parted, each-later, turn-answers, turn-kept, turn-continues}
 use Rattle.theorems.proofs.NewMatches.{new-matches}
 use Rattle.theorems.proofs.OneCall.{call-right}
 
 -- handles that last, from plain store to plain store
-goes-none : (P : Plain) → ContinuesTo P P
-goes-none P = record { width = refl; handles = λ K l h A. lasts-same A }
+continues-none : (P : Plain) → ContinuesTo P P
+continues-none P = record { width = refl; handles = λ K l h A. lasts-same A }
 
-goes-then : (P Q R : Plain) → ContinuesTo P Q → ContinuesTo Q R → ContinuesTo P R
-goes-then P Q R f g = record { width = g .width ∙ f .width; handles = λ K l h A. let u = f .handles K l h A in lasts-then u (g .handles K l h (u .held)) }
+continues-then : (P Q R : Plain) → ContinuesTo P Q → ContinuesTo Q R → ContinuesTo P R
+continues-then P Q R f g = record { width = g .width ∙ f .width; handles = λ K l h A. let u = f .handles K l h A in lasts-then u (g .handles K l h (u .held)) }
 
 -- calls for which the law for one call holds
 module _ {C A : Type 0} (Z : Calling C A) (right : (M₀ M : Memories) (P : Plain) → Matches M₀ M P → (c : C) → CallRight Z M₀ M P c) where
@@ -46,13 +46,13 @@ module _ {C A : Type 0} (Z : Calling C A) (right : (M₀ M : Memories) (P : Plai
       list-matches : Matches M₀ (steps Z cs M .state) (ended .state)
       list-matches = turn-kept (answer-of on) (left-by on) (answer-of other-nodes) (left-by other-nodes) (Matches M₀) kept cs M P m
 
-      list-goes : AllContinue Z cs M → ContinuesTo P (ended .state)
-      list-goes r = turn-goes (answer-of on) (left-by on) (answer-of other-nodes) (left-by other-nodes) (Matches M₀) kept (Z .Continues) ContinuesTo
-          goes-none goes-then
+      list-continues : AllContinue Z cs M → ContinuesTo P (ended .state)
+      list-continues r = turn-continues (answer-of on) (left-by on) (answer-of other-nodes) (left-by other-nodes) (Matches M₀) kept (Z .Continues) ContinuesTo
+          continues-none continues-then
           (λ c M P m. right M₀ M P m c .continues) cs M P m r
 
       list-lasts : AllContinue Z cs M → HandlesLast (decode M) (decode (steps Z cs M .state))
-      list-lasts r = subst₂ HandlesLast (sym (m .lists)) (sym (list-matches .lists)) (list-goes r .handles)
+      list-lasts r = subst₂ HandlesLast (sym (m .lists)) (sym (list-matches .lists)) (list-continues r .handles)
 
   -- THE THEOREM: after an accepted `new`, whatever the memories were before it and whatever the calls
   pub lists-right : (k : ℕ) (M₀ : Memories) (h : ℕ) → step (new-store k) M₀ .answer ≡ Handle h → (cs : List C) → ListRight Z k M₀ cs
@@ -63,7 +63,7 @@ module _ {C A : Type 0} (Z : Calling C A) (right : (M₀ M : Memories) (P : Plai
         new-answer = t .0;
         answers = list-answers M₀ cs m;
         matches = list-matches M₀ cs m;
-        width = λ r. list-matches M₀ cs m .width ∙ list-goes M₀ cs m r .width;
+        width = λ r. list-matches M₀ cs m .width ∙ list-continues M₀ cs m r .width;
         lasts = λ r before later q. let S = decode (steps Z before M .state) in
             subst (λ cs. HandlesLast S (decode (steps Z cs M .state))) (sym q)
             (subst (λ X. HandlesLast S (decode X)) (sym (turn-parted (answer-of (Z .on-memories)) (left-by (Z .on-memories)) before later M))

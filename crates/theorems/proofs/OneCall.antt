@@ -58,7 +58,7 @@ module _ {A : Type 0} (refuse : Refusal → A) (check : ℕ → Store → Check)
       → Sound (λ k S. unless-declined refuse (check k S) (λ l. runs (program k l) (answer S)))
   runs-sound program answer h = record {
     formed = λ k S p f F e. let w = declined-runs refuse (check k S) (program k) (answer S) p f e in
-        subst (λ p. WellFormed k (run p S .store)) (w .program) (h k S (w .level) F (w .goes));
+        subst (λ p. WellFormed k (run p S .store)) (w .program) (h k S (w .level) F (w .passes));
   }
 
   pub gives-sound : (answer : Store → ℕ → A) → Sound (λ k S. unless-declined refuse (check k S) (λ l. gives (answer S l)))
@@ -169,7 +169,7 @@ module _ {M₀ M : Memories} {P : Plain} (A : Matches M₀ M P) where
       blank M (λ S. encode k S M) in
       subst (λ t. Alike M₀ t (plain-step m n (new-store k) P)) (sym e) (finishes-alike (Declined UsedUp) k blank v (λ p f q.
       let w = declined-runs Declined c new as-handle p f q in
-      let t = guard-passed _ _ (w .goes) in (
+      let t = guard-passed _ _ (w .passes) in (
         leb→le k 32 (subst T (sym (t .0)) tt),
         subst (λ p. WellFormed k (run p blank .store)) (ap new (ap level-in (t .1)) ∙ w .program)
             (new-does k .after .formed),

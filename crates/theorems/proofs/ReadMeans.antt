@@ -48,10 +48,10 @@ GivesOnly P (gives a) = P a
 GivesOnly P (runs p f) = ⊥
 
 -- where every refusal has P, and the answer of a call that is not declined
-pub tells-by : (P : Answer → Type 0) (c : Check) (f : ℕ → Answer) → ((r : Refusal) → P (Declined r)) → ((l : ℕ) → c ≡ Level l → P (f l))
+pub gives-by : (P : Answer → Type 0) (c : Check) (f : ℕ → Answer) → ((r : Refusal) → P (Declined r)) → ((l : ℕ) → c ≡ Level l → P (f l))
     → GivesOnly P (unless-declined Declined c (λ l. gives (f l)))
-tells-by P (Level l) f refused goes = goes l refl
-tells-by P (No r) f refused goes = refused r
+gives-by P (Level l) f refused passes = passes l refl
+gives-by P (No r) f refused passes = refused r
 
 -- so a call on a store answers with P, and leaves the memories
 module _ {A : Type 0} (refuse : Refusal → A) (v : ℕ → Store → Verdict A) (M : Memories) (s : IsStore M) (P : A → Type 0)
@@ -111,53 +111,53 @@ module _ {k : ℕ} {S : Store} (F : WellFormed k S) where
   relation-read-refused (R.IsZero a) r = tt
   relation-read-refused (R.Relates a p q) r = tt
 
-  set-read-goes : (c : SetRead) (l : ℕ) → set-read-declines k c S ≡ Level l → set-read-meaning k c S (set-read-answer S l c)
+  set-read-passes : (c : SetRead) (l : ℕ) → set-read-declines k c S ≡ Level l → set-read-meaning k c S (set-read-answer S l c)
   unfolding set-read-meaning complement run
-  set-read-goes (T.Get a) l e =
+  set-read-passes (T.Get a) l e =
       let q = also-passed _ _ _ e in
       let t = one-passed F set a (q .0) in
       subst (λ l. SetChildren S l a (x0 (get set S a)) (x1 (get set S a))) (sym (t .level)) (set-children S l a (q .1) (t .held))
-  set-read-goes (T.Complement a) l e =
+  set-read-passes (T.Complement a) l e =
       let t = one-passed F set a e in
       subst (λ l. Den set l (λ p. ¬ contains S a p) S (signed 1 a)) (sym (t .level)) (complement-does set l a F (t .low) (own set S l a (t .held)) .after .post)
-  set-read-goes (T.IsZero a) l e =
+  set-read-passes (T.IsZero a) l e =
       let t = one-passed F set a e in
       subst (λ j. (eqb (run (is-zero set l a) S .value) 1 ≡ true) ↔ ((p : List ℕ) → Packet j p → ¬ contains S a p)) (sym (t .level))
       (Iff·trans (yes _) (is-zero-does set l a F (own set S l a (t .held)) .after .post .means))
-  set-read-goes (T.Intersects a b) l e =
+  set-read-passes (T.Intersects a b) l e =
       let t = two-passed F set a b e in
       subst (λ j. (eqb (run (intersects l a b) S .value) 1 ≡ true) ↔ Some j (λ p. contains S a p × contains S b p)) (sym (t .0 .level))
       (Iff·trans (yes _) (intersects-does l a b F (t .0 .low) (own set S l a (t .0 .held)) (own set S l b (t .1 .held)) .after .post .means))
 
-  relation-read-goes : (c : RelationRead) (l : ℕ) → relation-read-declines k c S ≡ Level l → relation-read-meaning k c S (relation-read-answer S l c)
+  relation-read-passes : (c : RelationRead) (l : ℕ) → relation-read-declines k c S ≡ Level l → relation-read-meaning k c S (relation-read-answer S l c)
   unfolding relation-read-meaning
-  relation-read-goes (R.Get a) l e =
+  relation-read-passes (R.Get a) l e =
       let q = also-passed _ _ _ e in
       let t = one-passed F rel a (q .0) in
       let x = get rel S a in
       subst (λ l. RelationChildren S l a (x00 x) (x01 x) (x10 x) (x11 x)) (sym (t .level)) (relation-children S l a (q .1) (t .held))
-  relation-read-goes (R.IsZero a) l e =
+  relation-read-passes (R.IsZero a) l e =
       let t = one-passed F rel a e in
       subst (λ j. (eqb (run (is-zero rel l a) S .value) 1 ≡ true) ↔ ((p q : List ℕ) → Packet j p → Packet j q → ¬ relates S a p q)) (sym (t .level))
       (Iff·trans (yes _) (Iff·trans (is-zero-does rel l a F (own rel S l a (t .held)) .after .post .means) (no-pair S l a (t .held))))
-  relation-read-goes (R.Relates a p q) l e =
+  relation-read-passes (R.Relates a p q) l e =
       let t = one-passed F rel a (also-passed _ _ _ (also-passed _ _ _ e .0) .0) in
       subst (λ j. (eqb (walk rel S a (digits (packet l p) (packet l q))) 1 ≡ true) ↔ relates S a (packet j p) (packet j q)) (sym (t .level)) (yes _)
 
-  pub set-read-tells : (c : SetRead) → GivesOnly (set-read-meaning k c S) (set-read-verdict c k S)
-  set-read-tells c = tells-by (set-read-meaning k c S) (set-read-declines k c S) (λ l. set-read-answer S l c) (set-read-refused c) (set-read-goes c)
+  pub set-read-gives : (c : SetRead) → GivesOnly (set-read-meaning k c S) (set-read-verdict c k S)
+  set-read-gives c = gives-by (set-read-meaning k c S) (set-read-declines k c S) (λ l. set-read-answer S l c) (set-read-refused c) (set-read-passes c)
 
-  pub relation-read-tells : (c : RelationRead) → GivesOnly (relation-read-meaning k c S) (relation-read-verdict c k S)
-  relation-read-tells c =
-      tells-by (relation-read-meaning k c S) (relation-read-declines k c S) (λ l. relation-read-answer S l c) (relation-read-refused c) (relation-read-goes c)
+  pub relation-read-gives : (c : RelationRead) → GivesOnly (relation-read-meaning k c S) (relation-read-verdict c k S)
+  relation-read-gives c =
+      gives-by (relation-read-meaning k c S) (relation-read-declines k c S) (λ l. relation-read-answer S l c) (relation-read-refused c) (relation-read-passes c)
 
 -- THE FACTS: of a call on a store, what its answer says where it is no refusal; it leaves both memories
 pub set-read-means : (c : SetRead) (M : Memories) → IsStore M
     → set-read-meaning (fields M) c (decode M) (step (set-read c) M .answer) × (step (set-read c) M .state ≡ M)
 set-read-means c M s = subst (λ t. set-read-meaning (fields M) c (decode M) (t .answer) × (t .state ≡ M)) (sym (set-read-steps c M))
-    (answer-has Declined (set-read-verdict c) M s (set-read-meaning (fields M) c (decode M)) (set-read-tells (s .formed) c))
+    (answer-has Declined (set-read-verdict c) M s (set-read-meaning (fields M) c (decode M)) (set-read-gives (s .formed) c))
 
 pub relation-read-means : (c : RelationRead) (M : Memories) → IsStore M
     → relation-read-meaning (fields M) c (decode M) (step (relation-read c) M .answer) × (step (relation-read c) M .state ≡ M)
 relation-read-means c M s = subst (λ t. relation-read-meaning (fields M) c (decode M) (t .answer) × (t .state ≡ M)) (sym (relation-read-steps c M))
-    (answer-has Declined (relation-read-verdict c) M s (relation-read-meaning (fields M) c (decode M)) (relation-read-tells (s .formed) c))
+    (answer-has Declined (relation-read-verdict c) M s (relation-read-meaning (fields M) c (decode M)) (relation-read-gives (s .formed) c))

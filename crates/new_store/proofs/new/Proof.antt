@@ -12,9 +12,9 @@ use Rattle.new_store.proofs.new.Statement.{statement}
 use Rattle.new_store.proofs.new.Tie as tie
 
 -- what `check` says where `new` is not declined
-goes : (c : tie.After-check3) → (let a = c .before .before .before .before .before .before .before .before .before .before .args in
+checks : (c : tie.After-check3) → (let a = c .before .before .before .before .before .before .before .before .before .before .args in
     NewChecked (length (a .relations .now)) (length (a .sets .now)) (a .k) (Level (c .check3 .given .0 .0)))
-goes c = subst (NewChecked _ _ _) (c .check3 .given .1) (c .before .before .check .ensures)
+checks c = subst (NewChecked _ _ _) (c .check3 .given .1) (c .before .before .check .ensures)
 
 returns : tie.Need-returns
 returns c =
@@ -28,21 +28,21 @@ returns c =
     )
 
 begin-requires : tie.Need-begin-requires
-begin-requires c κs = (omega arith, omega arith, goes (c .before .before) .2)
+begin-requires c κs = (omega arith, omega arith, checks (c .before .before) .2)
 
 begin-requires-2 : tie.Need-begin-requires-2
-begin-requires-2 c κs = (omega arith, omega arith, goes (c .before .before .before .before .before .before) .3)
+begin-requires-2 c κs = (omega arith, omega arith, checks (c .before .before .before .before .before .before) .3)
 
 slice-write-relations : tie.Need-slice-write-relations
 slice-write-relations c =
     let after-begin = c .before .before .before .before .before .before in
     let after-check3 = after-begin .before .before .before in
-    let h = goes (after-check3) .2 in omega (arith, h, after-begin .begin .kept .0)
+    let h = checks (after-check3) .2 in omega (arith, h, after-begin .begin .kept .0)
 
 as-level-requires : tie.Need-as-level-requires
 as-level-requires c κs =
     let after-check3 = c .before .before .before .before .before .before .before .before .before .before .before .before in
-    let t = goes (after-check3) in omega (arith, t .0, t .1)
+    let t = checks (after-check3) in omega (arith, t .0, t .1)
 
 made-requires : tie.Need-made-requires
 made-requires c κs =
@@ -51,7 +51,7 @@ made-requires c κs =
     let after-check3 = after-begin .before .before .before in
     let after-clear = after-check3 .before .before .before .before .before in
     let entry = after-clear .before .before .before .before .before in
-    let a = entry .args in begun-here (memories (a .relations .now) (a .sets .now)) (a .k) _ _ (goes (after-check3)) (c .as-level .ensures) _ _
+    let a = entry .args in begun-here (memories (a .relations .now) (a .sets .now)) (a .k) _ _ (checks (after-check3)) (c .as-level .ensures) _ _
     (after-begin .begin .ensures) (after-begin2 .begin2 .ensures) _ (still-clear (length (a .work .now)) _ (after-clear .clear .ensures))
 
 same-length-2 : tie.Need-same-length-2
@@ -71,7 +71,7 @@ returns-2 c =
     let after-clear = after-check3 .before .before .before .before .before in
     let entry = after-clear .before .before .before .before .before in
     let a = entry .args in (
-      created-new (memories (a .relations .now) (a .sets .now)) (a .k) _ _ (goes (after-check3)) (after-as-level .as-level .ensures) _ _
+      created-new (memories (a .relations .now) (a .sets .now)) (a .k) _ _ (checks (after-check3)) (after-as-level .as-level .ensures) _ _
           (after-begin .begin .ensures) (after-begin2 .begin2 .ensures) _ _ (after-made .made .ensures .0),
       after-made .made .ensures .1 ∙ ap (λ n. replicate n 0) (after-clear .clear .kept .0),
     )

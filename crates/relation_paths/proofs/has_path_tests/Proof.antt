@@ -13,12 +13,12 @@ has-path-tests-spec =
     tie.close
     (tie.spec
     (λ c κs. search needs)
-    (λ c j. record { stands = yes (by begin (path-is _ _ _ _)) (empty-says (c .before .set-properties .ensures) (c .if1 .taken)) })
+    (λ c j. record { reduces = yes (by begin (path-is _ _ _ _)) (empty-says (c .before .set-properties .ensures) (c .if1 .taken)) })
     (λ c κs. search needs)
     (λ c j.
     let after-set-properties = c .before .before .before in
     record {
-      stands = yes (no (by begin (path-is _ _ _ _)) (empty-says (after-set-properties .set-properties .ensures) (c .before .before .if1 .left)))
+      reduces = yes (no (by begin (path-is _ _ _ _)) (empty-says (after-set-properties .set-properties .ensures) (c .before .before .if1 .left)))
           (empty-says (c .before .set-properties2 .ensures) (c .if2 .taken));
     })
     (λ c κs. search needs)
@@ -27,7 +27,7 @@ has-path-tests-spec =
     let at-if1 = after-set-properties2 .before in
     let after-set-properties = at-if1 .before in
     record {
-      stands = yes (no (no (by begin (path-is _ _ _ _)) (empty-says (after-set-properties .set-properties .ensures) (at-if1 .if1 .left)))
+      reduces = yes (no (no (by begin (path-is _ _ _ _)) (empty-says (after-set-properties .set-properties .ensures) (at-if1 .if1 .left)))
           (empty-says (after-set-properties2 .set-properties2 .ensures) (c .before .before .if2 .left)))
           (empty-of-other (c .before .relation-properties .ensures) (c .if3 .taken));
     })
@@ -37,7 +37,7 @@ has-path-tests-spec =
     let at-if1 = after-set-properties2 .before in
     let after-set-properties = at-if1 .before in
     record {
-      stands = yes (no (no (no (by begin (path-is _ _ _ _)) (empty-says (after-set-properties .set-properties .ensures) (at-if1 .if1 .left)))
+      reduces = yes (no (no (no (by begin (path-is _ _ _ _)) (empty-says (after-set-properties .set-properties .ensures) (at-if1 .if1 .left)))
           (empty-says (after-set-properties2 .set-properties2 .ensures) (at-if2 .if2 .left)))
           (empty-of-other (c .before .before .relation-properties .ensures) (c .before .if3 .left)))
           (universal-of-other (c .before .before .relation-properties .ensures) (c .if4 .taken));
@@ -49,7 +49,7 @@ has-path-tests-spec =
     let at-if1 = after-set-properties2 .before in
     let after-set-properties = at-if1 .before in
     record {
-      stands = yes (no (no (no (no (by begin (path-is _ _ _ _)) (empty-says (after-set-properties .set-properties .ensures) (at-if1 .if1 .left)))
+      reduces = yes (no (no (no (no (by begin (path-is _ _ _ _)) (empty-says (after-set-properties .set-properties .ensures) (at-if1 .if1 .left)))
           (empty-says (after-set-properties2 .set-properties2 .ensures) (at-if2 .if2 .left)))
           (empty-of-other (after-relation-properties .relation-properties .ensures) (c .before .before .if3 .left)))
           (universal-of-other (after-relation-properties .relation-properties .ensures) (c .before .if4 .left)))
@@ -63,7 +63,7 @@ has-path-tests-spec =
     let at-if1 = after-set-properties2 .before in
     let after-set-properties = at-if1 .before in
     record {
-      stands = yes (no (no (no (no (no (by begin (path-is _ _ _ _)) (empty-says (after-set-properties .set-properties .ensures) (at-if1 .if1 .left)))
+      reduces = yes (no (no (no (no (no (by begin (path-is _ _ _ _)) (empty-says (after-set-properties .set-properties .ensures) (at-if1 .if1 .left)))
           (empty-says (after-set-properties2 .set-properties2 .ensures) (at-if2 .if2 .left)))
           (empty-of-other (after-relation-properties .relation-properties .ensures) (at-if3 .if3 .left)))
           (universal-of-other (after-relation-properties .relation-properties .ensures) (c .before .before .if4 .left)))
@@ -79,7 +79,7 @@ has-path-tests-spec =
     let at-if1 = after-set-properties2 .before in
     let after-set-properties = at-if1 .before in
     record {
-      stands = no (no (no (no (no (no (by begin (path-is _ _ _ _)) (empty-says (after-set-properties .set-properties .ensures) (at-if1 .if1 .left)))
+      reduces = no (no (no (no (no (no (by begin (path-is _ _ _ _)) (empty-says (after-set-properties .set-properties .ensures) (at-if1 .if1 .left)))
           (empty-says (after-set-properties2 .set-properties2 .ensures) (at-if2 .if2 .left)))
           (empty-of-other (after-relation-properties .relation-properties .ensures) (at-if3 .if3 .left)))
           (universal-of-other (after-relation-properties .relation-properties .ensures) (at-if4 .if4 .left)))
@@ -101,7 +101,7 @@ has-path-tests-spec =
     let at-if1 = after-set-properties2 .before in
     let after-set-properties = at-if1 .before in
     record {
-      stands = recalled _ _ _ _ (path-memo _ _ _ _)
+      reduces = recalled _ _ _ _ (path-memo _ _ _ _)
           (no (no (no (no (no (no (by begin (path-is _ _ _ _)) (empty-says (after-set-properties .set-properties .ensures) (at-if1 .if1 .left)))
           (empty-says (after-set-properties2 .set-properties2 .ensures) (at-if2 .if2 .left)))
           (empty-of-other (after-relation-properties .relation-properties .ensures) (at-if3 .if3 .left)))
@@ -121,7 +121,7 @@ has-path-tests-spec =
     let at-if1 = after-set-properties2 .before in
     let after-set-properties = at-if1 .before in
     record {
-      stands = no (no (no (no (no (no (by begin (path-is _ _ _ _)) (empty-says (after-set-properties .set-properties .ensures) (at-if1 .if1 .left)))
+      reduces = no (no (no (no (no (no (by begin (path-is _ _ _ _)) (empty-says (after-set-properties .set-properties .ensures) (at-if1 .if1 .left)))
           (empty-says (after-set-properties2 .set-properties2 .ensures) (at-if2 .if2 .left)))
           (empty-of-other (after-relation-properties .relation-properties .ensures) (at-if3 .if3 .left)))
           (universal-of-other (after-relation-properties .relation-properties .ensures) (at-if4 .if4 .left)))

@@ -2,7 +2,7 @@
 use mathlib.Core.Path.{ap}
 use native.Mathlib.Omega.{arith}
 use Rattle.memory.specs.declared.Properties.{Properties}
-use Rattle.store_check.proofs.Fitting.{level-told}
+use Rattle.store_check.proofs.Fitting.{level-known}
 use borrow.Author.Needs.{needs}
 use Rattle.store_check.proofs.node_level.Statement.{statement}
 use Rattle.store_check.proofs.node_level.Tie as tie
@@ -12,7 +12,7 @@ returns c =
     let entry = c .before .before .before in
     let a = entry .args in
     let z = c .before .if1 .taken in
-    λ K B e p F E A. level-told K B (a .nodes .now) (a .k) (a .i) (a .word) _ (omega arith)
+    λ K B e p F E A. level-known K B (a .nodes .now) (a .k) (a .i) (a .word) _ (omega arith)
     (ap (λ (r : Properties). r .level) (c .properties-in .ensures)) F E A
 
 returns-2 : tie.Need-returns-2

@@ -5,7 +5,7 @@ use Prim.Native.Nat.{ℕ}
 use lib.Dec.{eqb}
 use borrow.Author.Needs.{needs}
 use borrow.Author.Tests.{eq-eqb, ne-eqb}
-use Rattle.call_rules.proofs.Handles.{level-told}
+use Rattle.call_rules.proofs.Handles.{level-known}
 use Rattle.call_rules.proofs.operands.all_at.Statement.{statement}
 use Rattle.call_rules.proofs.operands.all_at.Tie as tie
 
@@ -23,14 +23,14 @@ all-at-spec =
     tie.close
     (tie.spec
     (λ c κs. search needs)
-    (λ c K B n e f F x y z. no _ _ _ _ (level-told K B _ n (c .before .level .ensures .0) e f F x) (c .if1 .taken))
+    (λ c K B n e f F x y z. no _ _ _ _ (level-known K B _ n (c .before .level .ensures .0) e f F x) (c .if1 .taken))
     (λ c κs. search needs)
     (λ c K B n e f F x y z.
-    yes _ _ _ _ _ (level-told K B _ n (c .before .before .before .level .ensures .0) e f F x) (c .before .before .if1 .left)
-    (no _ _ _ _ (level-told K B _ n (c .before .level2 .ensures .0) e f F y) (c .if2 .taken)))
+    yes _ _ _ _ _ (level-known K B _ n (c .before .before .before .level .ensures .0) e f F x) (c .before .before .if1 .left)
+    (no _ _ _ _ (level-known K B _ n (c .before .level2 .ensures .0) e f F y) (c .if2 .taken)))
     (λ c κs. search needs)
     (λ c K B n e f F x y z.
     let at-if1 = c .before .before .before in
-    yes _ _ _ _ _ (level-told K B _ n (at-if1 .before .level .ensures .0) e f F x) (at-if1 .if1 .left)
-    (yes _ _ _ _ _ (level-told K B _ n (c .before .before .level2 .ensures .0) e f F y) (c .before .if2 .left)
-    (last _ _ _ (level-told K B _ n (c .level3 .ensures .0) e f F z)))))
+    yes _ _ _ _ _ (level-known K B _ n (at-if1 .before .level .ensures .0) e f F x) (at-if1 .if1 .left)
+    (yes _ _ _ _ _ (level-known K B _ n (c .before .before .level2 .ensures .0) e f F y) (c .before .if2 .left)
+    (last _ _ _ (level-known K B _ n (c .level3 .ensures .0) e f F z)))))

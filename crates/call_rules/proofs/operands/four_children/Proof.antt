@@ -4,7 +4,7 @@ use lib.Dec.{ltb}
 use borrow.Author.Needs.{needs}
 use borrow.Author.Tests.{not-true, not-false, lt-ltb, le-ltb}
 use Rattle.memory.proofs.Rows.{plain-length}
-use Rattle.call_rules.proofs.Handles.{also-no, also-yes, still-no, level-told, four-none, all-four, four-apart, four-are}
+use Rattle.call_rules.proofs.Handles.{also-no, also-yes, still-no, level-known, four-none, all-four, four-apart, four-are}
 use Rattle.call_rules.proofs.operands.four_children.Statement.{statement}
 use Rattle.call_rules.proofs.operands.four_children.Tie as tie
 
@@ -24,7 +24,7 @@ four-children-spec =
           let at-if1 = c .before .before .before in
           let h = at-if1 .before .all-held .ensures K _ e (plain-length K B _ _) ∙ not-false _ (at-if1 .if1 .left) in
           let t = all-four _ _ _ _ h in
-          let p = level-told K B _ _ (c .before .before .level .ensures .0) e f F (t .0) in
+          let p = level-known K B _ _ (c .before .before .level .ensures .0) e f F (t .0) in
           still-no _ _ (four-apart K F _ _ _ _ h _ p (c .before .all-at .ensures K B _ e f F (t .1) (t .2) (t .3) ∙ not-true _ (c .if2 .taken))) _ refl;
       low = tt;
     })
@@ -33,7 +33,7 @@ four-children-spec =
           let at-if1 = c .before .before .before .before in
           let h = at-if1 .before .all-held .ensures K _ e (plain-length K B _ _) ∙ not-false _ (at-if1 .if1 .left) in
           let t = all-four _ _ _ _ h in
-          let p = level-told K B _ _ (c .before .before .before .level .ensures .0) e f F (t .0) in
+          let p = level-known K B _ _ (c .before .before .before .level .ensures .0) e f F (t .0) in
           also-no _ (λ l. ltb l _) (four-are K F _ _ _ _ h _ p (c .before .before .all-at .ensures K B _ e f F (t .1) (t .2) (t .3)
           ∙ not-false _ (c .before .if2 .left))) _ refl (le-ltb _ _ (c .if3 .taken));
       low = tt;
@@ -43,7 +43,7 @@ four-children-spec =
           let at-if1 = c .before .before .before .before in
           let h = at-if1 .before .all-held .ensures K _ e (plain-length K B _ _) ∙ not-false _ (at-if1 .if1 .left) in
           let t = all-four _ _ _ _ h in
-          let p = level-told K B _ _ (c .before .before .before .level .ensures .0) e f F (t .0) in
+          let p = level-known K B _ _ (c .before .before .before .level .ensures .0) e f F (t .0) in
           also-yes _ (λ l. ltb l _) (four-are K F _ _ _ _ h _ p (c .before .before .all-at .ensures K B _ e f F (t .1) (t .2) (t .3)
           ∙ not-false _ (c .before .if2 .left))) _ refl (lt-ltb _ _ (c .if3 .left));
       low = c .before .before .before .level .ensures .1;

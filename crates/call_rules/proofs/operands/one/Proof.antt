@@ -3,7 +3,7 @@ use mathlib.Core.Path.{_∙_}
 use borrow.Author.Needs.{needs}
 use borrow.Author.Tests.{not-true, not-false}
 use Rattle.memory.proofs.Rows.{plain-length}
-use Rattle.call_rules.proofs.Handles.{one-none, one-is, level-told}
+use Rattle.call_rules.proofs.Handles.{one-none, one-is, level-known}
 use Rattle.call_rules.proofs.operands.one.Statement.{statement}
 use Rattle.call_rules.proofs.operands.one.Tie as tie
 
@@ -20,6 +20,6 @@ one-spec =
     (λ c K e. record {
       says = λ B f F.
           let t = c .before .before .is-held .ensures K _ e (plain-length K B _ _) ∙ not-false _ (c .before .if1 .left) in
-          one-is K F _ _ t (level-told K B _ _ (c .level .ensures .0) e f F t);
+          one-is K F _ _ t (level-known K B _ _ (c .level .ensures .0) e f F t);
       low = c .level .ensures .1;
     }))

@@ -1,7 +1,7 @@
 -- `pair` answers the level of both operands where they are held at one.
 use borrow.Author.Needs.{needs}
 use borrow.Author.Tests.{not-true, not-false}
-use Rattle.call_rules.proofs.TwoKinds.{pair-no-relation, pair-no-set, pair-levels-differ, pair-goes}
+use Rattle.call_rules.proofs.TwoKinds.{pair-no-relation, pair-no-set, pair-levels-differ, pair-passes}
 use Rattle.call_rules.proofs.operands.pair.Statement.{statement}
 use Rattle.call_rules.proofs.operands.pair.Tie as tie
 
@@ -29,7 +29,7 @@ returns-4 c =
     let after-is-held2 = at-if2 .before in
     let at-if1 = after-is-held2 .before in
     let after-is-held = at-if1 .before in
-    pair-goes _ _ _ _ _ _ _ (after-is-held .is-held .ensures) (not-false _ (at-if1 .if1 .left)) (after-is-held2 .is-held2 .ensures)
+    pair-passes _ _ _ _ _ _ _ (after-is-held .is-held .ensures) (not-false _ (at-if1 .if1 .left)) (after-is-held2 .is-held2 .ensures)
     (not-false _ (at-if2 .if2 .left))
     (c .before .before .level .ensures .0) (c .before .level2 .ensures .0) (c .before .before .level .ensures .1) (c .if3 .left)
 

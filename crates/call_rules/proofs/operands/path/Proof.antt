@@ -1,7 +1,7 @@
 -- `path` answers the level of all three operands where they are held at one.
 use borrow.Author.Needs.{needs}
 use borrow.Author.Tests.{not-true, not-false}
-use Rattle.call_rules.proofs.TwoKinds.{path-no-output, path-declined, path-levels-differ, path-goes}
+use Rattle.call_rules.proofs.TwoKinds.{path-no-output, path-declined, path-levels-differ, path-passes}
 use Rattle.call_rules.proofs.operands.path.Statement.{statement}
 use Rattle.call_rules.proofs.operands.path.Tie as tie
 
@@ -23,7 +23,7 @@ returns-3 c =
     let after-pair = after-check .before .before in
     let at-if1 = after-pair .before in
     let after-is-held = at-if1 .before in
-    path-goes _ _ _ _ _ _ _ _ (after-is-held .is-held .ensures) _ (not-false _ (at-if1 .if1 .left)) (after-pair .pair .ensures) (after-check .check .given .1)
+    path-passes _ _ _ _ _ _ _ _ (after-is-held .is-held .ensures) _ (not-false _ (at-if1 .if1 .left)) (after-pair .pair .ensures) (after-check .check .given .1)
     (c .before .level .ensures .0) (c .if2 .left)
 
 returns-4 : tie.Need-returns-4

@@ -76,7 +76,7 @@ pub +walked-spec : {M : Type 1} → statement M
 +walked-spec = close μ-walked
     (λ t. walked-lts.spec (calls t) (walked-at t) walked.Post
     (λ c κs. search needs)
-    (λ c. λ K w a. record { tells = λ k B n r F W A. zero-has K _ _ _ _ (c .before .if1 .taken) (c .constant-word .ensures) A })
+    (λ c. λ K w a. record { knows = λ k B n r F W A. zero-has K _ _ _ _ (c .before .if1 .taken) (c .constant-word .ensures) A })
     (λ c κs. search needs)
     (λ c. search needs)
     (λ c κs. (omega (arith, c .before .before .before .pre .0, c .before .if1 .left), c .before .before .before .pre .1))
@@ -96,14 +96,14 @@ pub +walked-spec : {M : Type 1} → statement M
     let p = after-properties-in .properties-in in
     let pos : 0 < s .level = omega (arith, at-if1 .if1 .left) in
     λ K w a. record {
-      tells = λ k B n r F W A.
+      knows = λ k B n r F W A.
           let r′ = room K (s .c) n (s .nodes .now) a r in
           let S = plain K B (s .nodes .now) n in
           let v = level-within K S (s .level) (s .h) pos A in
           let e = after-child-of .child-of .ensures K B n a r′ v in
           let all = after-both .before .children-are .ensures K B n a r′ v in
           let D = first-held K (s .c) (s .level) (s .h) x _ false (p .result) a F pos A e all in
-          let H = subst (Has K S _ _) (sym (p .ensures)) (after-properties-in .before .walked .ensures K w a .tells k B n r F W D) in
+          let H = subst (Has K S _ _) (sym (p .ensures)) (after-properties-in .before .walked .ensures K w a .knows k B n r F W D) in
           let is = c .word-of .ensures .0 (c .word-of .ensures .1 (omega arith)) ∙ rw (after-both .both .ensures, c .before .before .both2 .ensures) in
           subst (Has K S _ _) (sym is) (walked-has K (s .c) (s .level) (s .h) x _ (c .before .is-identity .result) (p .result) a F pos A e all H
           (of-rel K k B (s .nodes .now) (s .c) n (s .level) (s .h) x _ _ a F A r e (H .identity) (c .before .is-identity .ensures k B n)));

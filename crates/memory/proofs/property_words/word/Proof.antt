@@ -5,7 +5,7 @@ use Rattle.memory.proofs.property_words.word.Statement.{statement}
 use Rattle.memory.proofs.property_words.word.Tie as tie
 
 returns : tie.Need-returns
-returns c = λ K a. record { tells = λ k B n r F W A. c .before .known-word .ensures K k _ a F W (omega arith) _ A }
+returns c = λ K a. record { knows = λ k B n r F W A. c .before .known-word .ensures K k _ a F W (omega arith) _ A }
 
 returns-2 : tie.Need-returns-2
 returns-2 c = λ K a. c .walked .ensures K _ a

@@ -12,7 +12,7 @@ use Rattle.policy_text.specs.XForms.{x-begins?, x-forms}
 use Rattle.policy_text.specs.Machine.{inside, spelt, need, final, byte-step, negs}
 use Rattle.policy_text.proofs.Moves.{atom-end, atom-whole, atom-go, atom-stop, atom-bang, atom-over, paren-refused}
 use Rattle.policy_text.proofs.Moves.{paren-closed, paren-ends, paren-stops, step-semi, step-plus, join-stars}
-use Rattle.policy_text.proofs.Moves.{join-atom-refused, join-refused, join-stop, or-falses, join-told, atom-told, join-lt}
+use Rattle.policy_text.proofs.Moves.{join-atom-refused, join-refused, join-stop, or-falses, join-known, atom-known, join-lt}
 use Rattle.policy_text.proofs.Moves.{join-from, atom-in, Joined, joined-none, joined-from, joined-in, joined-more, joined-last}
 use Prim.Native.Nat.{ℕ, _<_, _+_, _-_, _*_}
 use borrow.Fn.Kinds.{In}
@@ -126,19 +126,19 @@ atom-returns-8 t c =
     let at-if8 = after-sum .before in
     let at-if7 = at-if8 .before in
     paren-ends _ _ _ _ (omega arith) (at-if7 .if7 .taken) (at-if8 .if8 .taken) _
-    (join-told _ _ _ _ _ _ _ (c .before .before .inner .given .1) (after-sum .sum .ensures)) (c .if9 .taken)
+    (join-known _ _ _ _ _ _ _ (c .before .before .inner .given .1) (after-sum .sum .ensures)) (c .if9 .taken)
 
 atom-shared-slice-read-if10 : (t : ℕ) → atom-lts.Need-shared-slice-read-if10 (atom-calls t) (atom-at t) atom.Post
 atom-shared-slice-read-if10 t c =
     let after-inner = c .before .before .before in
     let after-sum = after-inner .before .before in
-    join-lt _ _ _ _ _ _ (join-told _ _ _ _ _ _ _ (after-inner .inner .given .1) (after-sum .sum .ensures)) (c .before .if9 .left)
+    join-lt _ _ _ _ _ _ (join-known _ _ _ _ _ _ _ (after-inner .inner .given .1) (after-sum .sum .ensures)) (c .before .if9 .left)
 
 atom-add-t23 : (t : ℕ) → atom-lts.Need-add-t23 (atom-calls t) (atom-at t) atom.Post
 atom-add-t23 t c =
     let after-inner = c .before .before .before .before in
     let after-sum = after-inner .before .before in
-    let h = (join-lt _ _ _ _ _ _ (join-told _ _ _ _ _ _ _ (after-inner .inner .given .1) (after-sum .sum .ensures)) (c .before .before .if9 .left)) in omega
+    let h = (join-lt _ _ _ _ _ _ (join-known _ _ _ _ _ _ _ (after-inner .inner .given .1) (after-sum .sum .ensures)) (c .before .before .if9 .left)) in omega
     arith
 
 atom-returns-9 : (t : ℕ) → atom-lts.Need-returns-9 (atom-calls t) (atom-at t) atom.Post
@@ -148,8 +148,8 @@ atom-returns-9 t c =
     let at-if8 = after-sum .before in
     let at-if7 = at-if8 .before in
     paren-closed _ _ _ _ (omega arith) (at-if7 .if7 .taken) (at-if8 .if8 .taken) _
-    (join-told _ _ _ _ _ _ _ (after-inner .inner .given .1) (after-sum .sum .ensures))
-    (join-lt _ _ _ _ _ _ (join-told _ _ _ _ _ _ _ (after-inner .inner .given .1) (after-sum .sum .ensures)) (c .before .before .if9 .left)) (c .if10 .taken)
+    (join-known _ _ _ _ _ _ _ (after-inner .inner .given .1) (after-sum .sum .ensures))
+    (join-lt _ _ _ _ _ _ (join-known _ _ _ _ _ _ _ (after-inner .inner .given .1) (after-sum .sum .ensures)) (c .before .before .if9 .left)) (c .if10 .taken)
 
 atom-returns-10 : (t : ℕ) → atom-lts.Need-returns-10 (atom-calls t) (atom-at t) atom.Post
 atom-returns-10 t c =
@@ -158,8 +158,8 @@ atom-returns-10 t c =
     let at-if8 = after-sum .before in
     let at-if7 = at-if8 .before in
     paren-stops _ _ _ _ (omega arith) (at-if7 .if7 .taken) (at-if8 .if8 .taken) _
-    (join-told _ _ _ _ _ _ _ (after-inner .inner .given .1) (after-sum .sum .ensures))
-    (join-lt _ _ _ _ _ _ (join-told _ _ _ _ _ _ _ (after-inner .inner .given .1) (after-sum .sum .ensures)) (c .before .before .if9 .left)) (c .if10 .left)
+    (join-known _ _ _ _ _ _ _ (after-inner .inner .given .1) (after-sum .sum .ensures))
+    (join-lt _ _ _ _ _ _ (join-known _ _ _ _ _ _ _ (after-inner .inner .given .1) (after-sum .sum .ensures)) (c .before .before .if9 .left)) (c .if10 .left)
 
 atom-returns-11 : (t : ℕ) → atom-lts.Need-returns-11 (atom-calls t) (atom-at t) atom.Post
 atom-returns-11 t c = atom-over _ _ _ _ (omega arith) (inr (c .before .if7 .taken)) (c .if8 .left)
@@ -202,13 +202,13 @@ product-returns-2 t c =
     let at-loop = after-starred .before in
     joined-last _ _ _ _ _ _ _ (at-loop .loop .inv)
     (join-stop _ _ _ _ _ _ _ (λ l q. absurd (omega (arith, c .if1 .taken)))
-    (join-told _ _ _ _ _ _ _ (c .before .before .next .given .1) (after-starred .starred .ensures)))
+    (join-known _ _ _ _ _ _ _ (c .before .before .next .given .1) (after-starred .starred .ensures)))
 
 product-shared-slice-read-if2 : (t : ℕ) → product-lts.Need-shared-slice-read-if2 (product-calls t) (product-at t) product.Post product-Inv-loop product-μ-loop
 product-shared-slice-read-if2 t c =
     let after-next = c .before .before .before in
     let after-starred = after-next .before .before in
-    join-lt _ _ _ _ _ _ (join-told _ _ _ _ _ _ _ (after-next .next .given .1) (after-starred .starred .ensures)) (c .before .if1 .left)
+    join-lt _ _ _ _ _ _ (join-known _ _ _ _ _ _ _ (after-next .next .given .1) (after-starred .starred .ensures)) (c .before .if1 .left)
 
 product-returns-3 : (t : ℕ) → product-lts.Need-returns-3 (product-calls t) (product-at t) product.Post product-Inv-loop product-μ-loop
 product-returns-3 t c =
@@ -217,21 +217,21 @@ product-returns-3 t c =
     let at-loop = after-starred .before in
     joined-last _ _ _ _ _ _ _ (at-loop .loop .inv)
     (join-stop _ _ _ _ _ _ _ (λ l q. or-falses _ _ q (ne-eqb _ _ (c .if2 .taken)))
-    (join-told _ _ _ _ _ _ _ (after-next .next .given .1) (after-starred .starred .ensures)))
+    (join-known _ _ _ _ _ _ _ (after-next .next .given .1) (after-starred .starred .ensures)))
 
 product-add-from : (t : ℕ) → product-lts.Need-add-from (product-calls t) (product-at t) product.Post product-Inv-loop product-μ-loop
 product-add-from t c =
     let after-next = c .before .before .before .before in
     let after-starred = after-next .before .before in
-    let h = join-lt _ _ _ _ _ _ (join-told _ _ _ _ _ _ _ (after-next .next .given .1) (after-starred .starred .ensures)) (c .before .before .if1 .left) in omega
-    arith
+    let h = join-lt _ _ _ _ _ _ (join-known _ _ _ _ _ _ _ (after-next .next .given .1) (after-starred .starred .ensures)) (c .before .before .if1 .left) in
+    omega arith
 
 product-loop-less : (t : ℕ) → product-lts.Need-loop-less (product-calls t) (product-at t) product.Post product-Inv-loop product-μ-loop
 product-loop-less t c =
     let after-next = c .before .before .before .before in
     let after-starred = after-next .before .before in
-    let h = join-lt _ _ _ _ _ _ (join-told _ _ _ _ _ _ _ (after-next .next .given .1) (after-starred .starred .ensures)) (c .before .before .if1 .left) in
-    let k = join-from _ _ _ _ _ _ (join-told _ _ _ _ _ _ _ (after-next .next .given .1) (after-starred .starred .ensures)) in
+    let h = join-lt _ _ _ _ _ _ (join-known _ _ _ _ _ _ _ (after-next .next .given .1) (after-starred .starred .ensures)) (c .before .before .if1 .left) in
+    let k = join-from _ _ _ _ _ _ (join-known _ _ _ _ _ _ _ (after-next .next .given .1) (after-starred .starred .ensures)) in
     omega arith
 
 product-loop-again : (t : ℕ) → product-lts.Need-loop-again (product-calls t) (product-at t) product.Post product-Inv-loop product-μ-loop
@@ -239,7 +239,7 @@ product-loop-again t c =
     let after-next = c .before .before .before .before in
     let after-starred = after-next .before .before in
     let at-loop = after-starred .before in
-    let read = join-told _ _ _ _ _ _ _ (after-next .next .given .1) (after-starred .starred .ensures) in
+    let read = join-known _ _ _ _ _ _ _ (after-next .next .given .1) (after-starred .starred .ensures) in
     joined-more _ _ _ _ _ _ _ (join-lt _ _ _ _ _ _ read (c .before .before .if1 .left)) (λ v sa pa σ. (_, _, step-semi _ v sa pa σ _ (c .if2 .left)))
     (at-loop .loop .inv) read
 
@@ -249,12 +249,12 @@ starred-returns t c = join-atom-refused _ _ _ _ _ _ (c .match .keys2) (c .before
 starred-stars-requires : (t : ℕ) → starred-lts.Need-stars-requires (starred-calls t) (starred-at t) starred.Post
 starred-stars-requires t c κs =
     let after-atom = c .before .before .before in
-    atom-in _ _ _ _ _ (atom-told _ _ _ _ _ _ _ (c .before .first .given .1) (after-atom .atom .ensures))
+    atom-in _ _ _ _ _ (atom-known _ _ _ _ _ _ _ (c .before .first .given .1) (after-atom .atom .ensures))
 
 starred-returns-2 : (t : ℕ) → starred-lts.Need-returns-2 (starred-calls t) (starred-at t) starred.Post
 starred-returns-2 t c =
     let after-atom = c .before .before .before .before in
-    join-stars _ _ _ _ _ _ (atom-told _ _ _ _ _ _ _ (c .before .before .first .given .1) (after-atom .atom .ensures)) (c .stars .ensures)
+    join-stars _ _ _ _ _ _ (atom-known _ _ _ _ _ _ _ (c .before .before .first .given .1) (after-atom .atom .ensures)) (c .stars .ensures)
 
 abbrev sum-Inv-loop : sum-lts.InvT-loop
 sum-Inv-loop text at depth from₀ from = Joined x-forms text depth at from
@@ -280,13 +280,13 @@ sum-returns-2 t c =
     let at-loop = after-product .before in
     joined-last _ _ _ _ _ _ _ (at-loop .loop .inv)
     (join-stop _ _ _ _ _ _ _ (λ l q. absurd (omega (arith, c .if1 .taken)))
-    (join-told _ _ _ _ _ _ _ (c .before .before .next .given .1) (after-product .product .ensures)))
+    (join-known _ _ _ _ _ _ _ (c .before .before .next .given .1) (after-product .product .ensures)))
 
 sum-shared-slice-read-if2 : (t : ℕ) → sum-lts.Need-shared-slice-read-if2 (sum-calls t) (sum-at t) sum.Post sum-Inv-loop sum-μ-loop
 sum-shared-slice-read-if2 t c =
     let after-next = c .before .before .before in
     let after-product = after-next .before .before in
-    join-lt _ _ _ _ _ _ (join-told _ _ _ _ _ _ _ (after-next .next .given .1) (after-product .product .ensures)) (c .before .if1 .left)
+    join-lt _ _ _ _ _ _ (join-known _ _ _ _ _ _ _ (after-next .next .given .1) (after-product .product .ensures)) (c .before .if1 .left)
 
 sum-returns-3 : (t : ℕ) → sum-lts.Need-returns-3 (sum-calls t) (sum-at t) sum.Post sum-Inv-loop sum-μ-loop
 sum-returns-3 t c =
@@ -295,21 +295,21 @@ sum-returns-3 t c =
     let at-loop = after-product .before in
     joined-last _ _ _ _ _ _ _ (at-loop .loop .inv)
     (join-stop _ _ _ _ _ _ _ (λ l q. or-falses _ _ q (ne-eqb _ _ (c .if2 .taken)))
-    (join-told _ _ _ _ _ _ _ (after-next .next .given .1) (after-product .product .ensures)))
+    (join-known _ _ _ _ _ _ _ (after-next .next .given .1) (after-product .product .ensures)))
 
 sum-add-from : (t : ℕ) → sum-lts.Need-add-from (sum-calls t) (sum-at t) sum.Post sum-Inv-loop sum-μ-loop
 sum-add-from t c =
     let after-next = c .before .before .before .before in
     let after-product = after-next .before .before in
-    let h = join-lt _ _ _ _ _ _ (join-told _ _ _ _ _ _ _ (after-next .next .given .1) (after-product .product .ensures)) (c .before .before .if1 .left) in omega
-    arith
+    let h = join-lt _ _ _ _ _ _ (join-known _ _ _ _ _ _ _ (after-next .next .given .1) (after-product .product .ensures)) (c .before .before .if1 .left) in
+    omega arith
 
 sum-loop-less : (t : ℕ) → sum-lts.Need-loop-less (sum-calls t) (sum-at t) sum.Post sum-Inv-loop sum-μ-loop
 sum-loop-less t c =
     let after-next = c .before .before .before .before in
     let after-product = after-next .before .before in
-    let h = join-lt _ _ _ _ _ _ (join-told _ _ _ _ _ _ _ (after-next .next .given .1) (after-product .product .ensures)) (c .before .before .if1 .left) in
-    let k = join-from _ _ _ _ _ _ (join-told _ _ _ _ _ _ _ (after-next .next .given .1) (after-product .product .ensures)) in
+    let h = join-lt _ _ _ _ _ _ (join-known _ _ _ _ _ _ _ (after-next .next .given .1) (after-product .product .ensures)) (c .before .before .if1 .left) in
+    let k = join-from _ _ _ _ _ _ (join-known _ _ _ _ _ _ _ (after-next .next .given .1) (after-product .product .ensures)) in
     omega arith
 
 sum-loop-again : (t : ℕ) → sum-lts.Need-loop-again (sum-calls t) (sum-at t) sum.Post sum-Inv-loop sum-μ-loop
@@ -317,7 +317,7 @@ sum-loop-again t c =
     let after-next = c .before .before .before .before in
     let after-product = after-next .before .before in
     let at-loop = after-product .before in
-    let read = join-told _ _ _ _ _ _ _ (after-next .next .given .1) (after-product .product .ensures) in
+    let read = join-known _ _ _ _ _ _ _ (after-next .next .given .1) (after-product .product .ensures) in
     joined-more _ _ _ _ _ _ _ (join-lt _ _ _ _ _ _ read (c .before .before .if1 .left)) (λ v sa pa σ. (_, _, step-plus _ v sa pa σ _ (c .if2 .left)))
     (at-loop .loop .inv) read
 

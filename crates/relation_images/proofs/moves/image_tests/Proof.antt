@@ -14,11 +14,11 @@ image-tests-spec =
     tie.close
     (tie.spec
     (λ c κs. search needs)
-    (λ c j whole node e. record { stands = by (yes begin (less-says (lt-ltb _ 2 (c .before .if1 .taken)))) (ap ret (sym (c .lesser .ensures))) })
+    (λ c j whole node e. record { reduces = by (yes begin (less-says (lt-ltb _ 2 (c .before .if1 .taken)))) (ap ret (sym (c .lesser .ensures))) })
     (λ c κs. search needs)
     (λ c j whole node e.
     record {
-      stands = yes (no begin (less-says (le-ltb _ 2 (c .before .before .if1 .left))))
+      reduces = yes (no begin (less-says (le-ltb _ 2 (c .before .before .if1 .left))))
           (empty-says (c .before .set-properties .ensures) (c .if2 .taken));
     })
     (λ c κs. search needs)
@@ -26,7 +26,7 @@ image-tests-spec =
     let after-set-properties = c .before .before .before in
     let at-if1 = after-set-properties .before in
     record {
-      stands = yes (no (no begin (less-says (le-ltb _ 2 (at-if1 .if1 .left))))
+      reduces = yes (no (no begin (less-says (le-ltb _ 2 (at-if1 .if1 .left))))
           (empty-says (after-set-properties .set-properties .ensures) (c .before .before .if2 .left)))
           (identity-of-other (c .before .relation-properties .ensures) (c .if3 .taken));
     })
@@ -35,7 +35,7 @@ image-tests-spec =
     let after-set-properties = at-if2 .before in
     let at-if1 = after-set-properties .before in
     record {
-      stands = yes (no (no (no begin (less-says (le-ltb _ 2 (at-if1 .if1 .left))))
+      reduces = yes (no (no (no begin (less-says (le-ltb _ 2 (at-if1 .if1 .left))))
           (empty-says (after-set-properties .set-properties .ensures) (at-if2 .if2 .left)))
           (identity-of-other (c .before .before .relation-properties .ensures) (c .before .if3 .left)))
           (empty-of-other (c .before .before .relation-properties .ensures) (c .if4 .taken));
@@ -46,7 +46,7 @@ image-tests-spec =
     let after-set-properties = at-if2 .before in
     let at-if1 = after-set-properties .before in
     record {
-      stands = yes (no (no (no (no begin (less-says (le-ltb _ 2 (at-if1 .if1 .left))))
+      reduces = yes (no (no (no (no begin (less-says (le-ltb _ 2 (at-if1 .if1 .left))))
           (empty-says (after-set-properties .set-properties .ensures) (at-if2 .if2 .left)))
           (identity-of-other (after-relation-properties .relation-properties .ensures) (c .before .before .if3 .left)))
           (empty-of-other (after-relation-properties .relation-properties .ensures) (c .before .if4 .left)))
@@ -59,7 +59,7 @@ image-tests-spec =
     let after-set-properties = at-if2 .before in
     let at-if1 = after-set-properties .before in
     record {
-      stands = yes (no (no (no (no (no begin (less-says (le-ltb _ 2 (at-if1 .if1 .left))))
+      reduces = yes (no (no (no (no (no begin (less-says (le-ltb _ 2 (at-if1 .if1 .left))))
           (empty-says (after-set-properties .set-properties .ensures) (at-if2 .if2 .left)))
           (identity-of-other (after-relation-properties .relation-properties .ensures) (at-if3 .if3 .left)))
           (empty-of-other (after-relation-properties .relation-properties .ensures) (c .before .before .if4 .left)))
@@ -79,7 +79,7 @@ image-tests-spec =
     let after-set-properties = at-if2 .before in
     let at-if1 = after-set-properties .before in
     record {
-      stands = recalled _ _ _ _ e (no
+      reduces = recalled _ _ _ _ e (no
           (no (no (no (no (no begin (less-says (le-ltb _ 2 (at-if1 .if1 .left))))
           (empty-says (after-set-properties .set-properties .ensures) (at-if2 .if2 .left)))
           (identity-of-other (after-relation-properties .relation-properties .ensures) (at-if3 .if3 .left)))
@@ -99,7 +99,7 @@ image-tests-spec =
     let after-set-properties = at-if2 .before in
     let at-if1 = after-set-properties .before in
     record {
-      stands = no (no (no (no (no (no begin (less-says (le-ltb _ 2 (at-if1 .if1 .left))))
+      reduces = no (no (no (no (no (no begin (less-says (le-ltb _ 2 (at-if1 .if1 .left))))
           (empty-says (after-set-properties .set-properties .ensures) (at-if2 .if2 .left)))
           (identity-of-other (after-relation-properties .relation-properties .ensures) (at-if3 .if3 .left)))
           (empty-of-other (after-relation-properties .relation-properties .ensures) (at-if4 .if4 .left)))

@@ -3,7 +3,7 @@ use native.Mathlib.Omega.{arith}
 use borrow.Author.Needs.{needs}
 use Rattle.model.specs.Store.{set, rel}
 use Rattle.store_check.specs.Memory.{memories}
-use Rattle.call_rules.proofs.CallSteps.{reading-declined, reading-low, reading-told}
+use Rattle.call_rules.proofs.CallSteps.{reading-declined, reading-low, reading-known}
 use Rattle.store.proofs.ImageSteps.{path-reading}
 use Rattle.call_rules.proofs.Running.{both-here, other-here}
 use Rattle.store.proofs.path_reads.run_checked.Statement.{statement}
@@ -92,7 +92,7 @@ returns-2 c =
     let after-as-index2 = after-check .before .before .before in
     let after-as-index = after-as-index2 .before .before in
     let entry = after-as-index .before .before .before .before .before .before in
-    reading-told set (memories (entry .args .relations .now) (entry .args .sets .now)) (entry .args .work .now) (entry .pre) _
+    reading-known set (memories (entry .args .relations .now) (entry .args .sets .now)) (entry .args .work .now) (entry .pre) _
     (after-as-index2 .as-index2 .ensures)
     (path-reading (entry .args .call)) _ (both-here _ (entry .pre .store) (after-as-index .as-index .ensures) (after-as-index2 .as-index2 .ensures)
     (after-check .check .ensures)) _ (after-check3 .check3 .given .1)
