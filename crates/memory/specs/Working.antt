@@ -21,7 +21,7 @@ part-size = 4096
 abbrev pub index-size : ℕ
 index-size = 8192
 
--- what follows the memo where the words of sets begin, and where all parts end
+-- how far behind the memo the words of sets begin, and how many numbers all parts behind it have
 abbrev pub set-words-from : ℕ
 set-words-from = 12288
 

@@ -1,4 +1,4 @@
--- `four` answers the children's level where all are held at one below k.
+-- `four_children` answers the children's level where all are held at one below k.
 use mathlib.Core.Path.{refl, _∙_}
 use lib.Dec.{ltb}
 use borrow.Author.Needs.{needs}

@@ -1,4 +1,4 @@
--- `children` answers the children's level where it is below k.
+-- `two_children` answers the children's level where it is below k.
 use mathlib.Core.Path.{subst}
 use lib.Dec.{ltb}
 use borrow.Author.Needs.{needs}
