@@ -55,7 +55,7 @@ module _ {k : ℕ} {t : List ℕ} {at : ℕ} {s : RunState} {m m₁ w w₁ : Lis
   paren-part : {p : Built} {end : ℕ} → Builds (Sum x-forms) after-sum k t (at + 1) s m m₁ w w₁ p → Past t (p .end) end
       → (x : Policy) (rest : List ℕ) → By t at rest 40 x → BuildsPart k t x rest s m m₁ w w₁ (built (p .made) end)
   paren-part {p} B E x rest (by-paren d u A h) =
-      let i = B .part d u _ (41 ∷ rest) A h (λ e. omega (arith, e), λ e. omega (arith, e), λ e. omega (arith, e)) in
+      let i = B .part d u _ (41 ∷ rest) A h refl in
       record { text-left = E .rest ∙ next t (p .end) (i .text-left); performs = i .performs }
 
   -- `0` and `1`

@@ -1,29 +1,24 @@
 -- A field's number is read from its digits: there are none, one or two of them.
 use mathlib.Core.Path.{_≡_, refl, sym, ap, _∙_}
 use mathlib.Core.List.{List, _++_}
-use mathlib.Core.Bool.{Bool, true, false, _&&_}
+use mathlib.Core.Bool.{Bool, true, false}
 use Prim.Native.Nat.{ℕ, _+_, _-_, _*_, _≤_, _<_}
 use native.Mathlib.Omega.{arith}
-use lib.Dec.{leb}
 use lib.ListN.{length, getD, drop}
-use borrow.Author.Tests.{le-leb, leb-true}
 use Rattle.memory.proofs.Steps.{false≢true}
 use Rattle.policy_text.specs.Lexicon.{Digit}
-use Rattle.policy_text.specs.XForms.{Field, f-zero, f-one, f-two}
+use Rattle.policy_text.specs.XForms.{Field, f-zero, f-one, f-two, digit?}
+use Rattle.policy_text.proofs.XLaws.{is-digit as digit-is, digit-true}
 use Rattle.policy_build.specs.Items.{ReadsNumber}
 use Rattle.policy_build.specs.declared.items.Number.{Number}
 use Rattle.policy_build.proofs.Suffixes.{first-of, first-is, next}
 
--- a byte that is a digit, and one that is not
-pub is-digit : {r : Bool} (b : ℕ) → r ≡ (leb 48 b && leb b 57) → r ≡ true → Digit b
-is-digit b e f = go (leb 48 b) (leb b 57) refl refl (sym e ∙ f)
-  where
-    go : (x y : Bool) → leb 48 b ≡ x → leb b 57 ≡ y → (x && y) ≡ true → Digit b
-    go true y p q h = (leb-true 48 b p, leb-true b 57 (q ∙ h))
-    go false y p q h = absurd (false≢true h)
+-- a byte that is a digit, and one that is not, by what a test said
+pub is-digit : {r : Bool} (b : ℕ) → r ≡ digit? b → r ≡ true → Digit b
+is-digit b e f = digit-is b (sym e ∙ f)
 
-pub no-digit : {r : Bool} (b : ℕ) → r ≡ (leb 48 b && leb b 57) → r ≡ false → ¬ Digit b
-no-digit b e f d = false≢true (sym f ∙ e ∙ ap (λ x. x && leb b 57) (le-leb 48 b (d .0)) ∙ le-leb b 57 (d .1))
+pub no-digit : {r : Bool} (b : ℕ) → r ≡ digit? b → r ≡ false → ¬ Digit b
+no-digit b e f d = false≢true (sym f ∙ e ∙ digit-true b (d .0) (d .1))
 
 abbrev number : ℕ → ℕ → Number
 number v e = record { value = v; end = e }

@@ -1,19 +1,24 @@
 -- A loop over the steps of a chain builds a starred item, a product or a sum, from what its body's calls do.
 use mathlib.Core.Path.{_≡_, refl, sym, ap, _∙_, subst}
 use mathlib.Core.List.{List, [], _++_, append-assoc, append-nil}
+use mathlib.Core.Bool.{false, _||_}
 use Prim.Native.Nat.{ℕ, _+_, _≤_}
 use native.Mathlib.Omega.{arith}
 use lib.ListN.{length, getD, drop}
+use lib.Dec.{eqb}
+use borrow.Author.Tests.{eq-eqb}
 use Rattle.model.specs.Store.{rel}
 use Rattle.model.specs.Programs.{Prog, _>>=_}
 use Rattle.model.specs.Operations.{union}
 use Rattle.model.specs.Relations.{sequence, star}
 use Rattle.model.specs.Policies.{Policy, plus, seq, policy-program}
+use Rattle.model.proofs.Bools.{no-true}
 use Rattle.memory.specs.Performing.{Performs}
 use Rattle.memory.specs.declared.RunState.{RunState}
 use Rattle.memory.proofs.Steps.{performs-then, performs-by}
 use Rattle.policy_text.specs.Lexicon.{Lexicon}
 use Rattle.policy_text.specs.Grammar.{Atom, Starred, Product, Sum}
+use Rattle.policy_text.proofs.Moves.{or-false}
 use Rattle.policy_build.specs.Building.{Rank, Builds, BuildsText, after-atom, after-starred, after-product, after-sum}
 use Rattle.policy_build.specs.declared.Built.{Built}
 use Rattle.policy_build.proofs.Chains.{ChainStep, Chain, ChainBegun, Starring, Joining, starred-begun, product-begun, sum-begun}
@@ -29,18 +34,27 @@ pub record Looped (G Item : Rank) (After Below : ℕ → Type 0) (b : ℕ) (St :
 abbrev pub joined : (Policy → Policy → Policy) → Rank → ℕ → ChainStep
 joined join Item d = Joining join (Item d)
 
+-- a byte that fails a test is not the byte tested for
+not-byte : (x b : ℕ) → eqb x b ≡ false → ¬ (x ≡ b)
+not-byte x b n e = no-true n (eq-eqb x b e)
+
 pub starred-looped : {X : Lexicon} → Looped (Starred X) (Atom X) after-starred after-atom 42 (λ d. Starring)
-starred-looped = record { begun = λ d u p. starred-begun; below = λ x n. tt; starts = tt; apart = λ x n. n }
+starred-looped = record { begun = λ d u p. starred-begun; below = λ x n. tt; starts = tt; apart = λ x n. not-byte x 42 n }
 
 pub product-looped : {X : Lexicon} → Looped (Product X) (Starred X) after-product after-starred 59 (joined seq (Starred X))
-product-looped = record { begun = λ d u p. product-begun; below = λ x n. n .0; starts = λ e. omega (arith, e); apart = λ x n. n .1 }
+product-looped = record {
+  begun = λ d u p. product-begun;
+  below = λ x n. or-false (eqb x 42) (eqb x 59) n .0;
+  starts = refl;
+  apart = λ x n. not-byte x 59 (or-false (eqb x 42) (eqb x 59) n .1);
+}
 
 pub sum-looped : {X : Lexicon} → Looped (Sum X) (Product X) after-sum after-product 43 (joined plus (Product X))
 sum-looped = record {
   begun = λ d u p. sum-begun;
-  below = λ x n. (n .0, n .1);
-  starts = (λ e. omega (arith, e), λ e. omega (arith, e));
-  apart = λ x n. n .2;
+  below = λ x n. or-false (eqb x 42 || eqb x 59) (eqb x 43) n .0;
+  starts = refl;
+  apart = λ x n. not-byte x 43 (or-false (eqb x 42 || eqb x 59) (eqb x 43) n .1);
 }
 
 -- part of the way: the chain's policy so far is built, and its steps to p are ahead
@@ -145,7 +159,7 @@ module _ {X : Lexicon} {k : ℕ} {t : List ℕ} {at : ℕ} {m₁ m₂ w₁ w₂ 
     within = omega (arith, l, e);
     way = λ d u x rest g h n.
         let o = B .way d u x rest g h n in
-        let a = chain-next t (p .end) (o .chain) (o .text-left) n f in
+        let a = chain-next t (p .end) (o .chain) (o .text-left) (not-byte _ 42 n) f in
         record {
           so-far = a .to;
           ahead = a .steps;
@@ -179,5 +193,5 @@ plus-program k x y = refl
 pub text-builds : {X : Lexicon} {k : ℕ} {t : List ℕ} {s : RunState} {m m′ w w′ : List ℕ} {r : Built} → Builds (Sum X) after-sum k t 0 s m m′ w w′ r
     → BuildsText X k t s m m′ w w′ (r .made)
 text-builds {t = t} B = record {
-  builds = λ d p S. B .part d t p [] S (sym (append-nil t)) (λ e. omega (arith, e), λ e. omega (arith, e), λ e. omega (arith, e)) .performs;
+  builds = λ d p S. B .part d t p [] S (sym (append-nil t)) refl .performs;
 }

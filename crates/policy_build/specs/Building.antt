@@ -1,6 +1,7 @@
 -- What the build pass does: a part of the text that follows the grammar is read up to its end, and its policy's program is run.
 use mathlib.Core.Path.{_≡_}
 use mathlib.Core.List.{List, _∷_, _++_}
+use mathlib.Core.Bool.{false}
 use Prim.Native.Nat.{ℕ, _≤_}
 use lib.ListN.{length, getD, drop}
 use Rattle.model.specs.Store.{rel}
@@ -10,6 +11,7 @@ use Rattle.memory.specs.declared.RunState.{RunState}
 use Rattle.policy_text.specs.Lexicon.{Lexicon}
 use Rattle.policy_text.specs.XForms.{x-forms}
 use Rattle.policy_text.specs.Grammar.{Atom, Sum}
+use Rattle.policy_text.specs.Posts.{continues-starred, continues-product, continues-sum}
 use Rattle.policy_build.specs.declared.Built.{Built}
 
 abbrev pub built : RunState → ℕ → Built
@@ -28,13 +30,13 @@ abbrev pub after-atom : ℕ → Type 0
 after-atom b = Unit {0}
 
 abbrev pub after-starred : ℕ → Type 0
-after-starred b = ¬ (b ≡ 42)
+after-starred b = continues-starred b ≡ false
 
 abbrev pub after-product : ℕ → Type 0
-after-product b = (¬ (b ≡ 42)) × (¬ (b ≡ 59))
+after-product b = continues-product b ≡ false
 
 abbrev pub after-sum : ℕ → Type 0
-after-sum b = (¬ (b ≡ 42)) × (¬ (b ≡ 59)) × (¬ (b ≡ 43))
+after-sum b = continues-sum b ≡ false
 
 -- the text was read up to rest, and p's program run
 pub record BuildsPart (k : ℕ) (t : List ℕ) (p : Policy) (rest : List ℕ) (s : RunState) (m m′ w w′ : List ℕ) (r : Built) : Type 0 where
