@@ -108,17 +108,17 @@ pub not-runs : {A : Type 0} {a : A} {p : Prog} {f : Ran → A} → gives a ≡ r
 not-runs e = subst Runs (sym e) tt
 
 -- what a call runs, it runs at its operands' level
-pub record Went (c : Check) (f : ℕ → Prog) (p : Prog) : Type 0 where
+pub record RunsAt (c : Check) (f : ℕ → Prog) (p : Prog) : Type 0 where
   pub level : ℕ
-  pub checks : c ≡ Level level
+  pub passes : c ≡ Level level
   pub program : f level ≡ p
 
 module _ {A : Type 0} (refuse : Refusal → A) (c : Check) where
-  pub declined-runs : (f : ℕ → Prog) (h : Ran → A) (p : Prog) (g : Ran → A) → unless-declined refuse c (λ l. runs (f l) h) ≡ runs p g → Went c f p
+  pub declined-runs : (f : ℕ → Prog) (h : Ran → A) (p : Prog) (g : Ran → A) → unless-declined refuse c (λ l. runs (f l) h) ≡ runs p g → RunsAt c f p
   declined-runs f h p g e = by-check c refl e
     where
-      by-check : (d : Check) → c ≡ d → unless-declined refuse d (λ l. runs (f l) h) ≡ runs p g → Went c f p
-      by-check (Level l) q e = record { level = l; checks = q; program = ap program-in e }
+      by-check : (d : Check) → c ≡ d → unless-declined refuse d (λ l. runs (f l) h) ≡ runs p g → RunsAt c f p
+      by-check (Level l) q e = record { level = l; passes = q; program = ap program-in e }
       by-check (No r) q e = absurd (not-runs e)
 
   -- a call that answers runs nothing
