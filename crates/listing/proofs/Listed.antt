@@ -3,7 +3,7 @@ use mathlib.Core.Path.{_≡_, sym, ap, _∙_}
 use mathlib.Core.List.{List, [], _∷_, _++_, append-assoc}
 use Prim.Native.Nat.{ℕ, _+_, _-_, _*_, _<_, _≤_}
 use native.Mathlib.Omega.{arith}
-use lib.ListN.{length, take, drop, replicate, drop-of-length-le}
+use lib.ListN.{length, take, drop, replicate, drop-of-length-le, length-take}
 use lib.Seq.{take-all, take-nil, length-take-le}
 use lib.Dec.{leb}
 use borrow.Author.Tests.{leb-true, leb-false, le-leb, lt-leb}
@@ -90,6 +90,13 @@ listing-read t =
     (λ e.
     let long : 16384 < length t = leb-false (length t) 16384 e in
     sym (listing-long (take 16385 t) (rw (length-take-le 16385 t long) (omega arith))) ∙ listing-long t long)
+
+-- of n bytes asked for so many are there, where they may be listed, and else more than may be
+pub few-there : (n : ℕ) (b : List ℕ) → length b ≡ 16385 → n ≤ 16384 → length (take n b) ≡ n
+few-there n b all few = length-take-le n b (omega (arith, all, few))
+
+pub many-there : (n : ℕ) (b : List ℕ) → length b ≡ 16385 → 16384 < n → 16384 < length (take n b)
+many-there n b all many = omega (arith, all, many, length-take n b)
 
 -- what `list` says of bytes that it has written
 pub counted : (r n : ℕ) (o y b : List ℕ) → length b ≡ 16385 → r ≤ length o → take r o ≡ y → y ≡ listing (take n b)

@@ -1,7 +1,7 @@
 // What the lister writes for the bytes that it reads: a proved function from input to output.
 ghost use mathlib.Core.Path.{_≡_};
 ghost use mathlib.Core.List.{List};
-ghost use Prim.Native.Nat.{ℕ, _≤_};
+ghost use Prim.Native.Nat.{ℕ};
 ghost use lib.ListN.{length, take};
 ghost use Rattle.io.specs.Counts.{Counts};
 ghost use Rattle.listing.specs.Listing.{listing};
@@ -34,7 +34,7 @@ pub const INPUT: usize = MOST + 1;
 pub const OUTPUT: usize = 64 * MOST + 128;
 
 // Writes the listing of a text to the start of `out`, on memories of 2,048 places of each kind, and answers its length.
-// The first n bytes of `input` are those of the text, of which no more are read than `input` holds.
+// The first n bytes of `input`, or all of them, are those of the text, of which no more are read than `input` holds.
 pub fn list(
     input: &[u8; INPUT],
     n: usize,
@@ -43,7 +43,6 @@ pub fn list(
     work: &mut [u32],
     out: &mut [u8; OUTPUT],
 ) -> usize
-    requires { ⌜ n ≤ length (now input) ⌝ }
     ensures { λ r. ⌜ Counts r (now (out .exit)) ⌝ }
     ensures { λ r. ⌜ ((t : List ℕ) → take (length (now (input .entry))) t ≡ take n (now (input .entry)) → take r (now (out .exit)) ≡ listing t) ⌝ }
 {

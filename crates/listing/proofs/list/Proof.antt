@@ -2,7 +2,7 @@
 use mathlib.Core.Path.{sym}
 use native.Mathlib.Omega.{arith}
 use lib.Seq.{length-take-le}
-use Rattle.listing.proofs.Listed.{listing-of, listing-long, counted}
+use Rattle.listing.proofs.Listed.{listing-of, listing-long, few-there, many-there, counted}
 use Rattle.listing.specs.Listing.{listed}
 use borrow.Author.Needs.{needs}
 use Rattle.listing.proofs.list.Statement.{statement}
@@ -12,11 +12,11 @@ returns : tie.Need-returns
 returns c =
     let entry = c .before .before .before .before .before .before in
     counted _ (entry .args .n) _ _ (entry .args .input .now) (search needs) (omega (arith, c .put .ensures .end)) (c .put .ensures .text)
-    (listing-long _ (omega (arith, length-take-le (entry .args .n) (entry .args .input .now) (entry .pre))))
+    (listing-long _ (many-there (entry .args .n) (entry .args .input .now) (search needs) (omega arith)))
 
 slice-aggregate-text : tie.Need-slice-aggregate-text
 slice-aggregate-text c =
-    sym (length-take-le _ _ (c .before .before .before .before .pre))
+    let entry = c .before .before .before .before in sym (few-there (entry .args .n) (entry .args .input .now) (search needs) (omega arith))
 
 slice-aggregate-read : tie.Need-slice-aggregate-read
 slice-aggregate-read c =
@@ -26,14 +26,14 @@ add-write : tie.Need-add-write
 add-write c =
     let after-find = c .before .before .before .before .before in
     let entry = after-find .before .before .before .before .before in
-    omega (arith, after-find .find .ensures .1, length-take-le (entry .args .n) (entry .args .input .now) (entry .pre))
+    omega (arith, after-find .find .ensures .1, few-there (entry .args .n) (entry .args .input .now) (search needs) (omega arith))
 
 write-requires : tie.Need-write-requires
 write-requires c κs =
     let after-find = c .before .before .before .before .before .before .before .before .before in
     let entry = after-find .before .before .before .before .before in (
       omega arith,
-      omega (arith, after-find .find .ensures .1, length-take-le (entry .args .n) (entry .args .input .now) (entry .pre)),
+      omega (arith, after-find .find .ensures .1, few-there (entry .args .n) (entry .args .input .now) (search needs) (omega arith)),
       search needs,
       search needs,
     )
@@ -46,7 +46,7 @@ returns-2 c =
     let after-find = after-read .before .before in
     let entry = after-find .before .before .before .before .before in
     counted _ (entry .args .n) _ _ (entry .args .input .now) (search needs) (omega (arith, c .put2 .ensures .end)) (c .put2 .ensures .text)
-    (listing-of _ _ _ _ (omega (arith, length-take-le (entry .args .n) (entry .args .input .now) (entry .pre)))
+    (listing-of _ _ _ _ (omega (arith, few-there (entry .args .n) (entry .args .input .now) (search needs) (omega arith)))
     (after-find .find .ensures .0) (after-read .read .ensures) (after-enum-told .enum-told .given .1))
 
 returns-3 : tie.Need-returns-3
@@ -57,7 +57,7 @@ returns-3 c =
     let entry = after-find .before .before .before .before .before in
     let w = c .before .before .write in
     counted _ (entry .args .n) _ _ (entry .args .input .now) (search needs) (omega (arith, w .ensures .0, w .kept .1 .1 .1 .1 .1 .1 .0))
-    (w .ensures .1) (listing-of _ _ _ _ (omega (arith, length-take-le (entry .args .n) (entry .args .input .now) (entry .pre)))
+    (w .ensures .1) (listing-of _ _ _ _ (omega (arith, few-there (entry .args .n) (entry .args .input .now) (search needs) (omega arith)))
     (after-find .find .ensures .0) (after-read .read .ensures) (after-width .width .given .1))
 
 pub list-spec : {M : Type 1} → statement M
