@@ -15,29 +15,6 @@ use Rattle.memory.specs.Working.{memo-size, bucket, last-in, Chained, In
 use Rattle.memory.specs.Finding.{Finds, Entered}
 use Rattle.memory.proofs.Rows.{row-agree}
 
--- the bucket of a node whose numbers before y were mixed into h
-unfoldable pub bucket-of : ℕ → List ℕ → ℕ
-bucket-of h [] = h / 1048576
-bucket-of h (a ∷ y) = bucket ((h + a) ∷ y)
-
-pub bucket-start : (x : List ℕ) → bucket-of 0 x ≡ bucket x
-unfolding bucket-of bucket
-bucket-start [] = refl
-bucket-start (a ∷ y) = simp zero-add
-
-bucket-more : (h a : ℕ) (y : List ℕ) → bucket-of ((h + a) * 1640531527 % 4294967296) y ≡ bucket-of h (a ∷ y)
-unfolding bucket-of bucket
-bucket-more h a [] = simp zero-add
-bucket-more h a (b ∷ y) = simp zero-add
-
-pub bucket-step : (x : List ℕ) (j h : ℕ) → j < length x
-    → bucket-of ((h + getD x j 0) * 1640531527 % 4294967296) (drop (j + 1) x) ≡ bucket-of h (drop j x)
-bucket-step x j h l = rw (add-one j, drop-cons x j 0 l) (bucket-more h (getD x j 0) (drop (suc j) x))
-
-pub bucket-end : (x : List ℕ) (j h : ℕ) → length x ≤ j → bucket-of h (drop j x) ≡ h / 1048576
-unfolding bucket-of
-bucket-end x j h l = rw (drop-of-length-le x l)
-
 module _ (node : ℕ → List ℕ) (b : ℕ) where
   pub last-hit : (n : ℕ) → bucket (node n) ≡ b → last-in node b (suc n) ≡ suc n
   unfolding last-in

@@ -1,105 +1,101 @@
 -- The entries of the memo: one that is read answers, and one that is written leaves the others as they were.
 use mathlib.Core.Path.{_≡_, refl, sym, ap, _∙_, subst}
-use mathlib.Core.List.{List, [], _∷_}
-use mathlib.Core.Logic.{_⊎_, inl, inr, ⊎-elim}
-use Prim.Native.Nat.{ℕ, _+_, _-_, _*_, _/_, _%_, _<_, _≤_}
-use native.Mathlib.Nat.{eq-or-lt-of-le}
+use mathlib.Core.List.{List}
+use mathlib.Core.Logic.{_⊎_, inl, inr}
+use Prim.Native.Nat.{ℕ, _+_, _*_, _/_, _%_, _<_, _≤_}
+use native.Mathlib.Decide.{ℕ-discrete}
 use native.Mathlib.Omega.{arith}
-use lib.ListN.{length, getD, set, take, drop, length-set}
-use lib.Seq.{getD-set-same, getD-set-other, take-set-le, drop-set-lt, drop-set-add}
-use lib.Dec.{ltb}
-use borrow.Author.Tests.{ltb-true, ltb-false}
+use lib.ListN.{length, getD, set, drop, length-set}
+use lib.Seq.{getD-set-same, getD-set-other, drop-set-lt}
 use Rattle.model.specs.Store.{Store}
 use Rattle.model.specs.Programs.{ran, run}
 use Rattle.model.specs.Safety.{Settled}
-use Rattle.model.proofs.Bools.{by-test}
 use Rattle.model.proofs.Extends.{ext-refl}
-use Rattle.memory.specs.Rows.{row}
-use Rattle.memory.specs.Memo.{memo-program}
-use Rattle.memory.specs.Working.{memo-size, tag, Entry, Remembers}
-use Rattle.memory.specs.Performing.{Recalls, KeepsEntry}
+use Rattle.memory.specs.Memo.{memo-program, op-limit}
+use Rattle.memory.specs.Working.{memo-size, operand-limit, entry-op, entry-level, entry-left, entry-right, entry-result, Entry, Remembers}
+use Rattle.memory.specs.Performing.{Recalls, Says, KeepsEntry}
 use Rattle.memory.specs.declared.Lookup.the-variants.{Answer, Operands}
-use Rattle.memory.proofs.RelationNodes.{four, wrote}
 
--- READING
--- the entry at place j answers
-hit : (w : List ℕ) (S : Store) (j op l a b h : ℕ) → l < 256 → 0 < op → Remembers w S → 4 * j + 3 < memo-size (length w)
-    → row 4 w j ≡ tag op l ∷ a ∷ b ∷ h ∷ [] → run (memo-program op l a b) S ≡ ran S h
+-- the two numbers of an entry, without and with the result in the second
+abbrev pub first-number : ℕ → ℕ → ℕ → ℕ
+first-number op a b = op % 16 * 268435456 + a * 16384 + b
+
+abbrev pub key-number : ℕ → ℕ → ℕ
+key-number op l = l * 2048 + op / 16
+
+-- what such numbers say
+says : (x y op l a b : ℕ) → op < op-limit → a < operand-limit → b < operand-limit → x ≡ first-number op a b → y / operand-limit ≡ key-number op l
+    → Says x y op l a b (entry-result y)
+says x y op l a b o i j e f = record {
+  number = omega (arith, o, i, j, e, f);
+  level = omega (arith, o, f);
+  left = omega (arith, i, j, e);
+  right = omega (arith, i, j, e);
+  result = refl;
+}
+
+-- an entry that says what is settled is right, and a right one answers
+pub says-entry : (x y op l a b h : ℕ) {S : Store} → Says x y op l a b h → Settled (memo-program op l a b) S h → Entry x y S
 unfolding Entry
-hit w S j op l a b h i o R lt e =
-    let q : (256 * op + l) / 256 ≡ op = omega arith in
-    let r : (256 * op + l) % 256 ≡ l = omega arith in
-    let f : Entry (tag op l ∷ a ∷ b ∷ h ∷ []) S = subst (λ (x : List ℕ). Entry x S) e (R j lt) in
-    let s : Settled (memo-program op l a b) S h = rw (q, r) at (f (omega arith)) in
-    s .again S ext-refl
+says-entry x y op l a b h t s p = rw (t .number, t .level, t .left, t .right, t .result) s
+
+says-settled : (x y op l a b h : ℕ) {S : Store} → Says x y op l a b h → 0 < y → Entry x y S → Settled (memo-program op l a b) S h
+unfolding Entry
+says-settled x y op l a b h t p e = rw (t .number, t .level, t .left, t .right, t .result) at (e p)
+
+-- READING: the entry at place i answers
+pub hit : (w : List ℕ) (S : Store) (i op l a b r : ℕ) → op < op-limit → a < operand-limit → b < operand-limit → i % 2 ≡ 0 → i + 1 < memo-size (length w)
+    → getD w i 0 ≡ first-number op a b → getD w (i + 1) 0 ≡ r → r / operand-limit ≡ key-number op l → 0 < r → Remembers w S
+    → run (memo-program op l a b) S ≡ ran S (r % operand-limit)
+hit w S i op l a b r o u v even lt ex ey k p R =
+    let at : 2 * (i / 2) ≡ i = omega (arith, even) in
+    let e : Entry (getD w i 0) (getD w (i + 1) 0) S
+    = subst (λ n. n + 1 < memo-size (length w) → Entry (getD w n 0) (getD w (n + 1) 0) S) at (R (i / 2)) lt in
+    let f : Entry (getD w i 0) r S = subst (λ y. Entry (getD w i 0) y S) ey e in
+    says-settled _ _ _ _ _ _ _ (says (getD w i 0) r op l a b o u v ex k) p f .again S ext-refl
 
 pub recalls-none : {w : List ℕ} {op l a b : ℕ} → Recalls w op l a b (Operands a b)
 recalls-none = record { recalls = λ S h R e. absurd (let z : _≡_ {A = ℕ} 0 1 = cc in omega arith); else = λ x y e. (cc, cc) }
 
-pub recalls-hit : (w : List ℕ) (j op l a b : ℕ) → l < 256 → 0 < op → 4 * j + 3 < memo-size (length w) → memo-size (length w) ≤ length w
-    → getD w (4 * j) 0 ≡ tag op l → getD w (4 * j + 1) 0 ≡ a → getD w (4 * j + 2) 0 ≡ b → Recalls w op l a b (Answer (getD w (4 * j + 3) 0))
-recalls-hit w j op l a b i o lt m t ea eb = record {
-  recalls = λ S h R e.
-      let eh : getD w (4 * j + 3) 0 ≡ h = cc in
-      hit w S j op l a b h i o R lt (four w (4 * j) (omega arith) ∙ rw (t, ea, eb, eh));
+pub recalls-hit : {w : List ℕ} {op l a b h : ℕ} → ((S : Store) → Remembers w S → run (memo-program op l a b) S ≡ ran S h)
+    → Recalls w op l a b (Answer h)
+recalls-hit {op = op} {l} {a} {b} {h} f = record {
+  recalls = λ S g R e. let eh : h ≡ g = cc in f S R ∙ ap (ran S) eh;
   else = λ x y e. absurd (let z : _≡_ {A = ℕ} 0 1 = cc in omega arith);
 }
 
 -- WRITING
--- a number outside of an entry leaves it
-row-other : (w : List ℕ) (i p v : ℕ) → (p < 4 * i) ⊎ (4 * i + 4 ≤ p) → row 4 (set w p v) i ≡ row 4 w i
-row-other w i p v (inl h) = ap (take 4) (drop-set-lt (4 * i) w p v h)
-row-other w i p v (inr h) =
-    let k : ℕ = p - 4 * i in
-    let e : 4 * i + k ≡ p = omega arith in
-    subst (λ (q : ℕ). row 4 (set w q v) i ≡ row 4 w i) e (ap (take 4) (drop-set-add (4 * i) w k v) ∙ take-set-le 4 (drop (4 * i) w) k v (omega arith))
-
-module _ (w : List ℕ) (j t a b h : ℕ) where
-  wrote-row : (i : ℕ) → (i < j) ⊎ (j < i) → row 4 (wrote w (4 * j) t a b h) i ≡ row 4 w i
-  wrote-row i (inl l) = row-other _ i (4 * j + 3) h (inr (omega arith)) ∙ row-other _ i (4 * j + 2) b (inr (omega arith))
-      ∙ row-other _ i (4 * j + 1) a (inr (omega arith)) ∙ row-other w i (4 * j) t (inr (omega arith))
-  wrote-row i (inr l) = row-other _ i (4 * j + 3) h (inl (omega arith)) ∙ row-other _ i (4 * j + 2) b (inl (omega arith))
-      ∙ row-other _ i (4 * j + 1) a (inl (omega arith)) ∙ row-other w i (4 * j) t (inl (omega arith))
-
-  wrote-length : length (wrote w (4 * j) t a b h) ≡ length w
-  wrote-length = simp length-set
-
-  wrote-here : 4 * j + 3 < length w → row 4 (wrote w (4 * j) t a b h) j ≡ t ∷ a ∷ b ∷ h ∷ []
-  wrote-here f =
-      let w1 : List ℕ = set w (4 * j) t in
-      let w2 : List ℕ = set w1 (4 * j + 1) a in
-      let w3 : List ℕ = set w2 (4 * j + 2) b in
-      let l1 : length w1 ≡ length w = length-set w (4 * j) t in
-      let l2 : length w2 ≡ length w = length-set w1 (4 * j + 1) a ∙ l1 in
-      let l3 : length w3 ≡ length w = length-set w2 (4 * j + 2) b ∙ l2 in
-      let past : (i : ℕ) → i < 4 * j + 3 → getD (set w3 (4 * j + 3) h) i 0 ≡ getD w3 i 0 = λ i l. getD-set-other w3 (4 * j + 3) i h 0 (omega arith) in
-      let past2 : (i : ℕ) → i < 4 * j + 2 → getD w3 i 0 ≡ getD w2 i 0 = λ i l. getD-set-other w2 (4 * j + 2) i b 0 (omega arith) in
-      let e3 : getD (set w3 (4 * j + 3) h) (4 * j + 3) 0 ≡ h = getD-set-same w3 (4 * j + 3) h 0 (omega arith) in
-      let e2 : getD (set w3 (4 * j + 3) h) (4 * j + 2) 0 ≡ b = past (4 * j + 2) (omega arith) ∙ getD-set-same w2 (4 * j + 2) b 0 (omega arith) in
-      let e1 : getD (set w3 (4 * j + 3) h) (4 * j + 1) 0 ≡ a =
-      past (4 * j + 1) (omega arith) ∙ past2 (4 * j + 1) (omega arith) ∙ getD-set-same w1 (4 * j + 1) a 0 (omega arith) in
-      let e0 : getD (set w3 (4 * j + 3) h) (4 * j) 0 ≡ t =
-      past (4 * j) (omega arith) ∙ past2 (4 * j) (omega arith) ∙ getD-set-other w1 (4 * j + 1) (4 * j) a 0 (omega arith)
-      ∙ getD-set-same w (4 * j) t 0 (omega arith) in
-      four (wrote w (4 * j) t a b h) (4 * j) (omega (arith, wrote-length)) ∙ rw (e0, e1, e2, e3)
-
-  wrote-drop : (n : ℕ) → 4 * j + 3 < n → drop n (wrote w (4 * j) t a b h) ≡ drop n w
-  wrote-drop n l = drop-set-lt n _ (4 * j + 3) h l ∙ drop-set-lt n _ (4 * j + 2) b (omega arith)
-      ∙ drop-set-lt n _ (4 * j + 1) a (omega arith) ∙ drop-set-lt n w (4 * j) t (omega arith)
-
-apart : (i j : ℕ) → (i ≡ j) ⊎ ((i < j) ⊎ (j < i))
-apart i j = by-test (λ b. (i ≡ j) ⊎ ((i < j) ⊎ (j < i))) (ltb i j) (λ e. inr (inl (ltb-true i j e)))
-    (λ e. ⊎-elim (λ q. inl (sym q)) (λ l. inr (inr l)) (eq-or-lt-of-le (ltb-false i j e)))
-
 pub keeps-none : {w : List ℕ} {op l a b h : ℕ} → KeepsEntry w w op l a b h
-keeps-none = record { entries = λ j i. inl refl; rest = refl; work-length = refl }
+keeps-none = record { entries = λ j i. inl (refl, refl); rest = refl; work-length = refl }
 
-pub keeps-wrote : (w : List ℕ) (j op l a b h : ℕ) → 4 * j + 3 < memo-size (length w) → memo-size (length w) ≤ length w
-    → KeepsEntry w (wrote w (4 * j) (tag op l) a b h) op l a b h
-keeps-wrote w j op l a b h i m = record {
-  entries = λ k lt. ⊎-elim
-      (λ e. inr (ap (row 4 (wrote w (4 * j) (tag op l) a b h)) e ∙ wrote-here w j (tag op l) a b h (omega arith)))
-      (λ s. inl (wrote-row w j (tag op l) a b h k s)) (apart k j);
-  rest = wrote-drop w j (tag op l) a b h (memo-size (length w)) i;
-  work-length = wrote-length w j (tag op l) a b h;
+module _ (w : List ℕ) (i x y : ℕ) where
+  abbrev pub wrote-entry : List ℕ
+  wrote-entry = set (set w i x) (i + 1) y
+
+  wrote-other : (n : ℕ) → ¬ (n ≡ i) → ¬ (n ≡ i + 1) → getD wrote-entry n 0 ≡ getD w n 0
+  wrote-other n d e = getD-set-other (set w i x) (i + 1) n y 0 e ∙ getD-set-other w i n x 0 d
+
+  wrote-first : i + 1 < length w → getD wrote-entry i 0 ≡ x
+  wrote-first l = getD-set-other (set w i x) (i + 1) i y 0 (λ e. let z : ⊥ = omega arith in z) ∙ getD-set-same w i x 0 (omega arith)
+
+  wrote-second : i + 1 < length w → getD wrote-entry (i + 1) 0 ≡ y
+  wrote-second l = getD-set-same (set w i x) (i + 1) y 0 (omega (arith, length-set w i x))
+
+pub keeps-wrote : (w : List ℕ) (i x y op l a b h : ℕ) → op < op-limit → a < operand-limit → b < operand-limit → h < operand-limit
+    → x ≡ first-number op a b → y ≡ key-number op l * operand-limit + h → i % 2 ≡ 0 → i + 1 < memo-size (length w) → memo-size (length w) ≤ length w
+    → KeepsEntry w (wrote-entry w i x y) op l a b h
+keeps-wrote w i x y op l a b h o u v t ex ey even lt m = record {
+  entries = λ j lj. go j (ℕ-discrete (2 * j) i);
+  rest = drop-set-lt (memo-size (length w)) _ (i + 1) y lt ∙ drop-set-lt (memo-size (length w)) w i x (omega arith);
+  work-length = simp length-set;
 }
+  where
+    go : (j : ℕ) → Dec (2 * j ≡ i)
+        → ((getD (wrote-entry w i x y) (2 * j) 0 ≡ getD w (2 * j) 0) × (getD (wrote-entry w i x y) (2 * j + 1) 0 ≡ getD w (2 * j + 1) 0))
+        ⊎ Says (getD (wrote-entry w i x y) (2 * j) 0) (getD (wrote-entry w i x y) (2 * j + 1) 0) op l a b h
+    go j (yes e) = inr (rw (e, wrote-first w i x y (omega arith), wrote-second w i x y (omega arith))
+        (subst (Says x y op l a b) (let r : entry-result y ≡ h = omega (arith, t, ey) in r) (says x y op l a b o u v ex (omega (arith, t, ey)))))
+    go j (no d) = inl (
+      wrote-other w i x y (2 * j) d (λ e. let z : ⊥ = omega arith in z),
+      wrote-other w i x y (2 * j + 1) (λ e. let z : ⊥ = omega arith in z) (λ e. d (omega arith)),
+    )

@@ -89,9 +89,9 @@ formed-more l F = record {
   distinct = F .distinct;
 }
 
-pub entry-later : {S S′ : Store} (x : List ℕ) → Extends S S′ → Entry x S → Entry x S′
+pub entry-later : (x y : ℕ) {S S′ : Store} → Extends S S′ → Entry x y S → Entry x y S′
 unfolding Entry
-entry-later x E f z = settled-later E (f z)
+entry-later x y E f z = settled-later E (f z)
 
 -- PARTS of the working memory after a word was noted and a node entered the index
 apart : (J K : Kind) (l i n : ℕ) → i < most-places → n < most-places → words-at J l + i ≡ words-at K l + n → (J ≡ K) × (i ≡ n)
@@ -292,12 +292,11 @@ module _ {K : Kind} {B : Store} {s : RunState} {m w : List ℕ} (y x : List ℕ)
 
       memo-after : Remembers w₂ (plain K B m′ (s .n + 1))
       memo-after j f =
-          let g : 4 * j + 3 < memo-size (length w) = subst (λ k. 4 * j + 3 < memo-size k) (E .apart .work-length ∙ long) f in
+          let g : 2 * j + 1 < memo-size (length w) = subst (λ k. 2 * j + 1 < memo-size k) (E .apart .work-length ∙ long) f in
           let t : take (memo-size (length w)) w₂ ≡ take (memo-size (length w)) w = subst (λ k. take (memo-size k) w₂ ≡ take (memo-size k) w₁) long
           (E .apart .memo)
           ∙ noted-memo K x (s .n) w w₁ N in
-          entry-later (row 4 w₂ j) put-extends (subst (λ z. Entry z (plain K B m (s .n))) (sym (entry-same w w₂ t j g))
-          (R .live ok .work .memo j g))
+          entry-same w w₂ (plain K B m′ (s .n + 1)) t j g (entry-later _ _ put-extends (R .live ok .work .memo j g))
 
       past : (J : Kind) (i : ℕ) → length (nodes J (plain K B m′ (s .n + 1))) ≤ i → ¬ ((J ≡ K) × (i ≡ s .n))
       past J i a z =

@@ -1,14 +1,12 @@
 -- What a part of the working memory says stays where that part does: from laws of `take` and `drop`.
-use mathlib.Core.Path.{_≡_, sym, ap, _∙_}
+use mathlib.Core.Path.{_≡_, sym, ap, _∙_, subst}
 use mathlib.Core.List.{List}
 use Prim.Native.Nat.{ℕ, _+_, _*_, _<_}
 use native.Mathlib.Omega.{arith}
 use lib.ListN.{length, getD, take, drop}
-use lib.Seq.{getD-drop, take-take}
-use Rattle.model.specs.Store.{Kind, set, rel}
-use Rattle.memory.specs.Rows.{row}
-use Rattle.memory.specs.Working.{memo-size, words-at, index-size, part-size}
-use Rattle.memory.proofs.Rows.{row-agree}
+use lib.Seq.{getD-drop, getD-take}
+use Rattle.model.specs.Store.{Kind, set, rel, Store}
+use Rattle.memory.specs.Working.{memo-size, words-at, Entry, index-size, part-size}
 
 pub drop-at-same : (n : ℕ) (w w′ : List ℕ) → drop n w′ ≡ drop n w → (i : ℕ) → getD w′ (n + i) 0 ≡ getD w (n + i) 0
 drop-at-same n w w′ e i = sym (getD-drop n w′ i 0) ∙ ap (λ l. getD l i 0) e ∙ getD-drop n w i 0
@@ -28,10 +26,13 @@ words-same w w′ long e J i =
     ap (λ k. getD w′ (words-at J k + i) 0) long ∙ ap (λ k. getD w′ k 0) (word-place J (length w) i)
     ∙ drop-at-same (memo-size (length w) + index-size) w w′ e (spare J + i) ∙ ap (λ k. getD w k 0) (sym (word-place J (length w) i))
 
-pub entry-same : (w w′ : List ℕ) → take (memo-size (length w)) w′ ≡ take (memo-size (length w)) w
-    → (j : ℕ) → 4 * j + 3 < memo-size (length w) → row 4 w′ j ≡ row 4 w j
-entry-same w w′ t j g =
-    let q : take (4 * (j + 1)) w′ ≡ take (4 * (j + 1)) w
-    = sym (take-take (4 * (j + 1)) (memo-size (length w)) w′ (omega arith)) ∙ ap (take (4 * (j + 1))) t
-    ∙ take-take (4 * (j + 1)) (memo-size (length w)) w (omega arith) in
-    row-agree 4 (j + 1) w w′ q j (omega arith)
+memo-same : (w w′ : List ℕ) → take (memo-size (length w)) w′ ≡ take (memo-size (length w)) w → (i : ℕ) → i < memo-size (length w)
+    → getD w′ i 0 ≡ getD w i 0
+memo-same w w′ t i g = let m = memo-size (length w) in sym (getD-take m w′ i 0 g) ∙ ap (λ l. getD l i 0) t ∙ getD-take m w i 0 g
+
+-- an entry is its two numbers
+pub entry-same : (w w′ : List ℕ) (S : Store) → take (memo-size (length w)) w′ ≡ take (memo-size (length w)) w → (j : ℕ) → 2 * j + 1 < memo-size (length w)
+    → Entry (getD w (2 * j) 0) (getD w (2 * j + 1) 0) S → Entry (getD w′ (2 * j) 0) (getD w′ (2 * j + 1) 0) S
+entry-same w w′ S t j g e =
+    subst (λ x. Entry x (getD w′ (2 * j + 1) 0) S) (sym (memo-same w w′ t (2 * j) (omega arith)))
+    (subst (λ y. Entry (getD w (2 * j) 0) y S) (sym (memo-same w w′ t (2 * j + 1) g)) e)

@@ -2,9 +2,9 @@
 -- a part of the working memory goes by its own numbers
 use mathlib.Core.Path.{_≡_, refl, sym, ap, _∙_, subst}
 use mathlib.Core.Logic.{inl, inr}
-use mathlib.Core.List.{List, [], _∷_}
+use mathlib.Core.List.{List}
 use mathlib.Core.Bool.{true}
-use Prim.Native.Nat.{ℕ, _+_, _*_, _/_, _%_, _<_, _≤_}
+use Prim.Native.Nat.{ℕ, _+_, _*_, _<_, _≤_}
 use native.Mathlib.Omega.{arith}
 use native.Mathlib.Nat.{add-assoc}
 use lib.ListN.{length, getD, drop}
@@ -17,8 +17,9 @@ use Rattle.memory.specs.declared.Lookup.{Lookup}
 use Rattle.memory.specs.declared.Lookup.the-variants.{Answer, Operands}
 use Rattle.memory.specs.Performing.{Ready, Condition, PerformsOn, ReducesTo, ReducesOn, looked-up, LooksUpOn, Recalls, KeepsEntry, Remembered}
 use Rattle.memory.specs.Memo.{memo-program}
-use Rattle.memory.specs.Rows.{row, places, plain}
-use Rattle.memory.specs.Working.{memo-size, links-at, words-at, Indexed, Known, tag, Entry, Remembers, Right, index-size, set-words-from, part-size}
+use Rattle.memory.specs.Rows.{places, plain}
+use Rattle.memory.specs.Working.{memo-size, links-at, words-at, Indexed, Known, Entry, Remembers, Right, index-size, set-words-from, part-size}
+use Rattle.memory.proofs.Entries.{says-entry}
 use Rattle.memory.proofs.Parts.{drop-at-same}
 use Rattle.memory.proofs.Steps.{was-ok, done-ran, turn, called}
 
@@ -43,19 +44,14 @@ module _ (w w′ : List ℕ) (long : length w′ ≡ length w) (rest : drop (mem
       ap (λ k. getD w′ k 0) (add-assoc (memo-size (length w′)) set-words-from i) ∙ behind (set-words-from + i)
       ∙ ap (λ k. getD w k 0) (sym (add-assoc (memo-size (length w)) set-words-from i))
 
--- the entry of an operation that is settled
-entry-new : (op l a b h : ℕ) (x : List ℕ) {S : Store} → l < 256 → x ≡ tag op l ∷ a ∷ b ∷ h ∷ [] → Settled (memo-program op l a b) S h → Entry x S
-unfolding Entry
-entry-new op l a b h x {S} i e s = subst (λ y. 0 < getD y 0 0
-    → Settled (memo-program (getD y 0 0 / 256) (getD y 0 0 % 256) (getD y 1 0) (getD y 2 0)) S (getD y 3 0)) (sym e)
-    (λ z. let p : (256 * op + l) / 256 ≡ op = omega arith in let q : (256 * op + l) % 256 ≡ l = omega arith in rw (p, q) s)
-
-pub memo-kept : {op l a b h : ℕ} {w w′ : List ℕ} {S : Store} → l < 256 → KeepsEntry w w′ op l a b h → Settled (memo-program op l a b) S h → Remembers w S
+pub memo-kept : {op l a b h : ℕ} {w w′ : List ℕ} {S : Store} → KeepsEntry w w′ op l a b h → Settled (memo-program op l a b) S h → Remembers w S
     → Remembers w′ S
-memo-kept {op} {l} {a} {b} {h} {w} {w′} {S} i k s m j f = elim (k .entries j (subst (λ n. 4 * j + 3 < memo-size n) (k .work-length) f)) [
-  | inl e ↦ subst (λ x. Entry x S) (sym e) (m j (subst (λ n. 4 * j + 3 < memo-size n) (k .work-length) f))
-  | inr e ↦ entry-new op l a b h (row 4 w′ j) i e s
-]
+memo-kept {w = w} {w′} {S} k s m j f =
+    let g : 2 * j + 1 < memo-size (length w) = subst (λ n. 2 * j + 1 < memo-size n) (k .work-length) f in
+    elim (k .entries j g) [
+      | inl e ↦ subst (λ x. Entry x (getD w′ (2 * j + 1) 0) S) (sym (e .0)) (subst (λ y. Entry (getD w (2 * j) 0) y S) (sym (e .1)) (m j g))
+      | inr e ↦ says-entry _ _ _ _ _ _ _ e s
+    ]
 
 -- a call that runs an operation of the memo's table may keep its answer there
 pub performs-remember : {Q : Condition} {K : Kind} {p : Prog} {s r : RunState} {m m′ w w₁ w₂ : List ℕ} (op l a b : ℕ) → p ≡ memo-program op l a b → l < 256
@@ -70,7 +66,7 @@ performs-remember {Q} {K} {p} {s} {r} {m} {m′} {w} {w₁} {w₂} op l a b e i 
       work = record {
         fields = f .work .fields;
         formed = f .work .formed;
-        memo = memo-kept i g (answer B q R t) (f .work .memo);
+        memo = memo-kept g (answer B q R t) (f .work .memo);
         index = index-behind w₁ w₂ (g .work-length) (g .rest) (f .work .index);
         words = λ J i x y. subst (λ v. Known J (plain K B m′ (r .n)) (handle-of J 0 i) v) (sym (word-behind w₁ w₂ (g .work-length) (g .rest) J i))
             (f .work .words J i x y);

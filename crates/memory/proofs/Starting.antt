@@ -11,7 +11,6 @@ use Rattle.memory.specs.Finding.{IndexApart, Emptied}
 use Rattle.memory.specs.Working.{memo-size, words-at, last-in, Indexed, Known, Entry, Right, index-size}
 use Rattle.memory.proofs.Known.{known-nothing}
 use Rattle.memory.proofs.Parts.{words-same, entry-same}
-use Rattle.memory.proofs.Rows.{row-at}
 
 -- a store that is the same with other nodes taken for its own, which the index is then of
 pub right-indexed : {J K : Kind} {B C : Store} {w w′ m m′ : List ℕ} {n n′ : ℕ} → plain J C m′ n′ ≡ plain K B m n
@@ -20,8 +19,8 @@ right-indexed {J} {K} {B} {C} {w} {w′} {m} {m′} {n} {n′} e R X E = record 
   fields = R .fields;
   formed = subst (WellFormed (R .fields)) (sym e) (R .formed);
   memo = λ j f.
-      let g : 4 * j + 3 < memo-size (length w) = subst (λ k. 4 * j + 3 < memo-size k) (E .work-length) f in
-      subst (λ S. Entry (row 4 w′ j) S) (sym e) (subst (λ x. Entry x (plain K B m n)) (sym (entry-same w w′ (E .memo) j g)) (R .memo j g));
+      let g : 2 * j + 1 < memo-size (length w) = subst (λ k. 2 * j + 1 < memo-size k) (E .work-length) f in
+      entry-same w w′ (plain J C m′ n′) (E .memo) j g (subst (λ S. Entry (getD w (2 * j) 0) (getD w (2 * j + 1) 0) S) (sym e) (R .memo j g));
   index = X;
   words = λ I i a b.
       subst (λ v. Known I (plain J C m′ n′) (handle-of I 0 i) v) (sym (words-same w w′ (E .work-length) (E .words) I i))
@@ -45,7 +44,7 @@ unfolding Entry last-in
 right-cleared {K} {B} {m} n k F = record {
   fields = k;
   formed = F;
-  memo = λ j f p. absurd (let z : ⊥ = omega (arith, row-at 4 (replicate n 0) j 0 (omega arith), zero-at n (4 * j + 0)) in z);
+  memo = λ j f p. absurd (let z : ⊥ = omega (arith, zero-at n (2 * j + 1)) in z);
   index = λ f. record { heads = λ b l. zero-at n (memo-size (length (replicate n 0)) + b); links = λ i l. absurd (let z : ⊥ = omega arith in z) };
   words = λ J i a b. known-nothing _ (zero-at n (words-at J (length (replicate n 0)) + i));
   unset = λ J i a b. zero-at n (words-at J (length (replicate n 0)) + i);

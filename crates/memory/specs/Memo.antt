@@ -82,9 +82,9 @@ op-ifelse = 64
 abbrev pub op-has-path : ℕ
 op-has-path = 1024
 
--- numbers are below this, so that a tag has room for a level beside one
+-- numbers are below this, so that an entry has room for one
 abbrev pub op-limit : ℕ
-op-limit = 16777216
+op-limit = 32768
 
 -- the first program whose number is op
 abbrev entry : ℕ → ℕ → Prog → Prog → Prog

@@ -5,14 +5,14 @@ use mathlib.Core.List.{List, [], _∷_}
 use mathlib.Core.Bool.{Bool, true, _&&_}
 use mathlib.Core.Logic.{_⊎_}
 use Prim.Native.Nat.{ℕ, _+_, _*_, _<_, _≤_}
-use lib.ListN.{length, take, drop}
+use lib.ListN.{length, getD, take, drop}
 use lib.Dec.{leb}
 use Rattle.model.specs.Store.{Kind, set, rel, arity, Store, nodes, handle-of, sign, stored, get}
 use Rattle.model.specs.Programs.{Prog, mk, ran, run}
 use Rattle.model.specs.WellFormed.{Held, WellFormed}
 use Rattle.model.specs.Safety.{Within, Safe}
-use Rattle.memory.specs.Rows.{row, rows, places, plain, most-places}
-use Rattle.memory.specs.Working.{memo-size, Has, Words, tag, Remembers, Right}
+use Rattle.memory.specs.Rows.{rows, places, plain, most-places}
+use Rattle.memory.specs.Working.{memo-size, Has, Words, entry-op, entry-level, entry-left, entry-right, entry-result, Remembers, Right}
 use Rattle.memory.specs.Memo.{memo-program}
 use Rattle.memory.specs.declared.RunState.{RunState}
 use Rattle.memory.specs.declared.Properties.{Properties}
@@ -126,9 +126,19 @@ pub record Recalls (w : List ℕ) (op l a b : ℕ) (r : Lookup) : Type 0 where
   pub recalls : (S : Store) (h : ℕ) → Remembers w S → r ≡ Answer h → run (memo-program op l a b) S ≡ ran S h
   pub else : (x y : ℕ) → r ≡ Operands x y → (x ≡ a) × (y ≡ b)
 
+-- the numbers x and y are the entry of an operation's answer h
+pub record Says (x y op l a b h : ℕ) : Type 0 where
+  pub number : entry-op x y ≡ op
+  pub level : entry-level y ≡ l
+  pub left : entry-left x ≡ a
+  pub right : entry-right x ≡ b
+  pub result : entry-result y ≡ h
+
 -- each entry of the memo is the old one or that of the operation's answer; the rest is as it was
 pub record KeepsEntry (w w′ : List ℕ) (op l a b h : ℕ) : Type 0 where
-  pub entries : (j : ℕ) → 4 * j + 3 < memo-size (length w) → (row 4 w′ j ≡ row 4 w j) ⊎ (row 4 w′ j ≡ tag op l ∷ a ∷ b ∷ h ∷ [])
+  pub entries : (j : ℕ) → 2 * j + 1 < memo-size (length w)
+      → ((getD w′ (2 * j) 0 ≡ getD w (2 * j) 0) × (getD w′ (2 * j + 1) 0 ≡ getD w (2 * j + 1) 0))
+      ⊎ Says (getD w′ (2 * j) 0) (getD w′ (2 * j + 1) 0) op l a b h
   pub rest : drop (memo-size (length w)) w′ ≡ drop (memo-size (length w)) w
   pub work-length : length w′ ≡ length w
 

@@ -1,6 +1,6 @@
 -- The working memory: its parts, and when they are right for the nodes of a store.
 use mathlib.Core.Path.{_≡_}
-use mathlib.Core.List.{List, [], _∷_}
+use mathlib.Core.List.{List}
 use mathlib.Core.Bool.{Bool}
 use Prim.Native.Nat.{ℕ, zero, suc, _+_, _-_, _*_, _/_, _%_, _<_, _≤_, min}
 use lib.ListN.{length, getD}
@@ -44,13 +44,12 @@ words-at rel l = memo-size l + index-size
 words-at set l = memo-size l + set-words-from
 
 -- INDEX: chained buckets. A value is a node's place and one, or 0 for none.
-abbrev mixed : ℕ → List ℕ → ℕ
-mixed h [] = h
-mixed h (a ∷ x) = mixed ((h + a) * 1640531527 % 4294967296) x
+abbrev weighed : ℕ → ℕ → ℕ → ℕ → ℕ
+weighed a b c d = a * 668265263 + b * 374761393 + c * 1640531527 + d * 1000000007
 
--- the bucket of a node: its numbers mixed into 32 bits, of which the top twelve are taken
+-- the bucket of a node: its numbers, 0 where it has fewer than four, in one sum of products, of whose 32 low bits the top twelve are taken
 unfoldable pub bucket : List ℕ → ℕ
-bucket x = mixed 0 x / 1048576
+bucket x = weighed (getD x 0 0) (getD x 1 0) (getD x 2 0) (getD x 3 0) % 4294967296 / 1048576
 
 -- one more than the last place below n whose node is in bucket b, or 0
 unfoldable pub last-in : (ℕ → List ℕ) → ℕ → ℕ → ℕ
@@ -88,16 +87,32 @@ Known K S h v = 0 < v → (l : ℕ) → Held K S l h → Has K S l h (properties
 abbrev pub Words : List ℕ → Store → Type 0
 Words w S = (J : Kind) (i : ℕ) → i < most-places → i < length (nodes J S) → Known J S (handle-of J 0 i) (getD w (words-at J (length w) + i) 0)
 
--- MEMO: an entry is the operation's number and its level in a tag, the operands and the result; tag 0 is no entry.
--- An entry's program is settled with that result.
-abbrev pub tag : ℕ → ℕ → ℕ
-tag op l = 256 * op + l
+-- MEMO: an entry is two numbers. The first has the operands and the low four bits of the operation's number; the second, on top, the level, then
+-- the rest of the operation's number, then the result. A second number of 0 is no entry. Operands and results are below this.
+abbrev pub operand-limit : ℕ
+operand-limit = 16384
 
-unfoldable pub Entry : List ℕ → Store → Type 0
-Entry x S = 0 < getD x 0 0 → Settled (memo-program (getD x 0 0 / 256) (getD x 0 0 % 256) (getD x 1 0) (getD x 2 0)) S (getD x 3 0)
+abbrev pub entry-op : ℕ → ℕ → ℕ
+entry-op x y = y / operand-limit % 2048 * 16 + x / 268435456
+
+abbrev pub entry-level : ℕ → ℕ
+entry-level y = y / 33554432
+
+abbrev pub entry-left : ℕ → ℕ
+entry-left x = x / operand-limit % operand-limit
+
+abbrev pub entry-right : ℕ → ℕ
+entry-right x = x % operand-limit
+
+abbrev pub entry-result : ℕ → ℕ
+entry-result y = y % operand-limit
+
+-- an entry's program is settled with its result
+unfoldable pub Entry : ℕ → ℕ → Store → Type 0
+Entry x y S = 0 < y → Settled (memo-program (entry-op x y) (entry-level y) (entry-left x) (entry-right x)) S (entry-result y)
 
 abbrev pub Remembers : List ℕ → Store → Type 0
-Remembers w S = (j : ℕ) → 4 * j + 3 < memo-size (length w) → Entry (row 4 w j) S
+Remembers w S = (j : ℕ) → 2 * j + 1 < memo-size (length w) → Entry (getD w (2 * j) 0) (getD w (2 * j + 1) 0) S
 
 -- the working memory w is right for the first n nodes of m, of kind K, over the store B
 pub record Right (K : Kind) (B : Store) (w m : List ℕ) (n : ℕ) : Type 0 where

@@ -1,9 +1,9 @@
 // The chained index over the nodes of one kind, c numbers a node: `find` and `enter`.
 ghost use mathlib.Core.Path.{_≡_};
-ghost use mathlib.Core.List.{List};
+ghost use mathlib.Core.List.{List, [], _∷_};
 ghost use mathlib.Core.Bool.{Bool, true, false};
 ghost use Prim.Native.Nat.{ℕ, _+_, _*_, _%_, _<_, _≤_};
-ghost use lib.ListN.{length};
+ghost use lib.ListN.{length, getD};
 ghost use Rattle.memory.specs.Rows.{row, most-places};
 ghost use Rattle.memory.specs.Working.{index-size, memo-size, bucket, part-size};
 ghost use Rattle.memory.specs.Finding.{Finds, Search, SearchAt, Entered, Emptied};
@@ -36,25 +36,29 @@ pub fn memo_size(len: usize) -> usize
     len - PARTS
 }
 
-// One more number mixed in.
-pub fn mix(h: u64, a: u32) -> u64
-    requires { ⌜ h < 4294967296 ⌝ }
-    ensures { λ r. ⌜ (r ≡ (h + a) * 1640531527 % 4294967296) × (r < 4294967296) ⌝ }
+// The bucket of four numbers.
+pub(crate) fn bucket(a: u32, b: u32, c: u32, d: u32) -> usize
+    ensures { λ r. ⌜ (r ≡ bucket (a ∷ b ∷ c ∷ d ∷ [])) × (r < part-size) ⌝ }
 {
-    (h + a as u64) * 1640531527 % 4294967296
+    let h = a as u64 * 668265263
+        + b as u64 * 374761393
+        + c as u64 * 1640531527
+        + d as u64 * 1000000007;
+    (h % 4294967296 / 1048576) as usize
+}
+
+// Number j of a node, 0 where it has fewer.
+fn number(x: &[u32], j: usize) -> u32
+    ensures { λ r. ⌜ r ≡ getD (now (x .entry)) j 0 ⌝ }
+{
+    if j < x.len() { x[j] } else { 0 }
 }
 
 // The bucket of a node.
 pub fn hash(x: &[u32]) -> usize
     ensures { λ r. ⌜ (r ≡ bucket (now (x .entry))) × (r < part-size) ⌝ }
 {
-    let mut h: u64 = 0;
-    let mut j = 0;
-    while j < x.len() {
-        h = mix(h, x[j]);
-        j += 1;
-    }
-    (h / 1048576) as usize
+    bucket(number(x, 0), number(x, 1), number(x, 2), number(x, 3))
 }
 
 // Whether two slices hold the same numbers.

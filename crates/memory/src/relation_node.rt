@@ -12,17 +12,6 @@ ghost use Rattle.memory.specs.Finding.{SearchAt};
 ghost use Rattle.memory.specs.Noting.{Noted};
 ghost use Rattle.memory.specs.Performing.{JoinsAs};
 
-// The bucket of a node.
-fn hash(x00: u32, x01: u32, x10: u32, x11: u32) -> usize
-    ensures { λ r. ⌜ (r ≡ bucket (x00 ∷ x01 ∷ x10 ∷ x11 ∷ [])) × (r < part-size) ⌝ }
-{
-    let h0 = crate::index::mix(0, x00);
-    let h1 = crate::index::mix(h0, x01);
-    let h2 = crate::index::mix(h1, x10);
-    let h3 = crate::index::mix(h2, x11);
-    (h3 / 1048576) as usize
-}
-
 // Whether node i has these numbers.
 fn same(nodes: &[u32], i: usize, x00: u32, x01: u32, x10: u32, x11: u32) -> bool
     requires { ⌜ 4 * i + 4 ≤ length (now nodes) ⌝ }
@@ -122,7 +111,7 @@ pub fn join(
     if n > p {
         return crate::insert::fails(n);
     }
-    let b = hash(x00, x01, x10, x11);
+    let b = crate::index::bucket(x00, x01, x10, x11);
     let i = chase(nodes, work, at, n, b, x00, x01, x10, x11);
     if i < n {
         return crate::RunState {

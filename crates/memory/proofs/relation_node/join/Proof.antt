@@ -43,7 +43,7 @@ returns-3 c =
 
 chase-requires : tie.Need-chase-requires
 chase-requires c κs =
-    let hash = c .before .before .hash in
+    let hash = c .before .before .bucket in
     let after-places-of = c .before .before .before .before in
     let a = after-places-of .before .before .before .before .before .before .before .args in
     let l = after-places-of .places-of .ensures in
@@ -84,7 +84,7 @@ link-requires : tie.Need-link-requires
 link-requires c κs =
     let after-put-arg = c .before .before .before .before .before .before .before .before in
     let after-places-of = after-put-arg .before .before .before .before .before .before .before .before in
-    let hash = after-put-arg .before .before .before .before .before .before .hash in
+    let hash = after-put-arg .before .before .before .before .before .before .bucket in
     (omega (arith, c .before .before .before .note .kept), omega (arith, after-places-of .places-of .ensures), hash .ensures .1)
 
 returns-6 : tie.Need-returns-6
@@ -92,8 +92,8 @@ returns-6 c =
     let after-note = c .before .before .before .before .before .before in
     let after-put = after-note .before .before .before .before in
     let after-chase = after-put .before .before .before .before in
-    let after-hash = after-chase .before .before .before in
-    let after-places-of = after-hash .before .before in
+    let after-bucket = after-chase .before .before .before in
+    let after-places-of = after-bucket .before .before in
     let after-memo-size = after-places-of .before .before .before .before in
     let a = after-memo-size .before .before .before .args in
     let m = a .nodes .now in
@@ -106,7 +106,7 @@ returns-6 c =
       node = λ K y z e. joins-new y x (not-false _ (after-places-of .before .if2 .left)) z e (after-chase .chase .result)
           (λ good ix. after-chase .chase .ensures good at ix) _ _ _ (λ h. omega arith) l (after-put .put .ensures)
           (of-relation x n _ _ (after-note .note .ensures)) (c .before .before .link .ensures _ (at ∙ ap memo-size (sym (after-note .note .kept .0)))
-          (after-hash .hash .ensures .0 ∙ bucket-there m _ x n refl l (after-put .put .ensures)));
+          (after-bucket .bucket .ensures .0 ∙ bucket-there m _ x n refl l (after-put .put .ensures)));
     }
 
 pub join-spec : {M : Type 1} → statement M
