@@ -139,6 +139,29 @@ pub performs-then : {Q : Condition} {K : Kind} {p : Prog} {f : ℕ → Prog} {s 
     → PerformsOn Q K (f (r₁ .h)) r₁ m₁ m₂ w₁ w₂ r₂ → PerformsOn Q K (bind p f) s m m₂ w w₂ r₂
 performs-then d e = record { runs = λ B c R. both-runs d e B c R }
 
+-- WHAT IS LEFT of p where it is safe and the working memory right is done by a call, after a failure or not
+pub performs-left : {Q : Condition} {K : Kind} {p q : Prog} {s r : RunState} {m m′ w w′ : List ℕ}
+    → ((B : Store) → Q B → s .n ≤ places (arity K) m → Safe p (plain K B m (s .n)) → Right K B w m (s .n) → ReducesTo p q (plain K B m (s .n)))
+    → PerformsOn Q K q s m m′ w w′ r → PerformsOn Q K p s m m′ w w′ r
+unfolding ends
+performs-left {Q} {K} {p} {q} {s} {m = m} {w = w} u d = record {
+  runs = λ B c R. let b = d .runs B c (record { room = R .room; live = λ t. record { safe = left B c R t .safe; work = R .live t .work } }) in record {
+    okay = b .okay ∙ by-test
+        (λ x. s .ok ≡ x → (x && leb (ends K q (plain K B m (s .n))) (places (arity K) m)) ≡ (x && leb (ends K p (plain K B m (s .n))) (places (arity K) m)))
+        (s .ok) (λ e t. ap (λ (Q : Ran). leb (length (nodes K (Q .store))) (places (arity K) m)) (sym (left B c R t .runs))) (λ e t. refl) refl;
+    done = λ t. let e = sym (left B c R (was-ok b t) .runs) in record {
+      store = b .done t .store ∙ ap (λ (Q : Ran). Q .store) e;
+      value = b .done t .value ∙ ap (λ (Q : Ran). Q .value) e;
+      work = b .done t .work;
+    };
+    writes = b .writes;
+    work-length = b .work-length;
+  };
+}
+  where
+    left : (B : Store) → Q B → Ready K p B s m w → s .ok ≡ true → ReducesTo p q (plain K B m (s .n))
+    left B c R t = u B c (R .room) (R .live t .safe) (R .live t .work)
+
 -- the test t has the answer b wherever it may be made
 pub record TestIs (Q : Condition) (K : Kind) (m w : List ℕ) (t : Test) (b : Bool) : Type 0 where
   pub decides : (B : Store) → Q B → (n : ℕ) → n ≤ places (arity K) m → Right K B w m n → Sure t (plain K B m n) → holds t (plain K B m n) ≡ b
@@ -181,20 +204,7 @@ module _ {Q : Condition} {K : Kind} {p : Prog} {m w : List ℕ} where
   -- RETURNS: all that is left is done by a call; a number is left; nothing can be left at level 0
   pub called : {q : Prog} {s r : RunState} {m′ w′ : List ℕ} → s .ok ≡ true → ReducesOn Q K p q m w → PerformsOn Q K q s m m′ w w′ r
       → PerformsOn Q K p s m m′ w w′ r
-  unfolding ends
-  called {s = s} ok u d = record {
-    runs = λ B c R. let F = R .live ok in let a = u .left B c (s .n) (R .room) (F .safe) (F .work) in
-        let b = d .runs B c (record { room = R .room; live = λ t. record { safe = a .safe; work = F .work } }) in record {
-          okay = b .okay ∙ ap (λ (Q : Ran). s .ok && leb (length (nodes K (Q .store))) (places (arity K) m)) (sym (a .runs));
-          done = λ t. record {
-            store = b .done t .store ∙ ap (λ (Q : Ran). Q .store) (sym (a .runs));
-            value = b .done t .value ∙ ap (λ (Q : Ran). Q .value) (sym (a .runs));
-            work = b .done t .work;
-          };
-          writes = b .writes;
-          work-length = b .work-length;
-        };
-  }
+  called {s = s} ok u d = performs-left (λ B c. u .left B c (s .n)) d
 
   pub impossible : {s r : RunState} {m′ w′ : List ℕ} → s .ok ≡ true → ReducesOn Q K p panic m w → PerformsOn Q K p s m m′ w w′ r
   unfolding Safe
@@ -246,20 +256,7 @@ performs-by {Q} {K} {s = s} {r = r} {m = m} {m′ = m′} {w = w} {w′ = w′} 
 -- a test on numbers made between two calls, after a failure or not
 performs-test : {Q : Condition} {K : Kind} {p q : Prog} {s r : RunState} {m m′ w w′ : List ℕ} → ((S : Store) → run p S ≡ run q S)
     → ((S : Store) → Safe p S → Safe q S) → PerformsOn Q K q s m m′ w w′ r → PerformsOn Q K p s m m′ w w′ r
-unfolding ends
-performs-test {K = K} {s = s} {m = m} e f d = record {
-  runs = λ B c R. let S = plain K B m (s .n) in
-      let b = d .runs B c (record { room = R .room; live = λ t. record { safe = f S (R .live t .safe); work = R .live t .work } }) in record {
-        okay = b .okay ∙ ap (λ (Q : Ran). s .ok && leb (length (nodes K (Q .store))) (places (arity K) m)) (sym (e S));
-        done = λ t. record {
-          store = b .done t .store ∙ ap (λ (Q : Ran). Q .store) (sym (e S));
-          value = b .done t .value ∙ ap (λ (Q : Ran). Q .value) (sym (e S));
-          work = b .done t .work;
-        };
-        writes = b .writes;
-        work-length = b .work-length;
-      };
-}
+performs-test e f d = performs-left (λ B c l a R. record { runs = e _; safe = f _ a }) d
 
 module _ {Q : Condition} {K : Kind} {q q′ : Prog} {s r : RunState} {m m′ w w′ : List ℕ} (a b : ℕ) where
   pub performs-same : eqb a b ≡ true → PerformsOn Q K q s m m′ w w′ r → PerformsOn Q K (ask (same a b) q q′) s m m′ w w′ r

@@ -347,7 +347,7 @@ fn walked(nodes: &[u32], c: usize, level: u8, h: u32) -> u32
 }
 
 // What the working memory knows of a handle, as a word.
-fn known_word(work: &[u32], c: usize, h: u32) -> u32
+pub fn known_word(work: &[u32], c: usize, h: u32) -> u32
     ensures { λ r. ⌜ KnownWord (now (work .entry)) c h r ⌝ }
 {
     let s = words_start(work.len(), c);

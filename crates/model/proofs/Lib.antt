@@ -17,6 +17,7 @@ pub mod Sequence
 pub mod Kleene
 pub mod Star
 pub mod Fields
+pub mod FieldsFromIdentity
 pub mod SetFields
 pub mod Images
 pub mod YesNo

@@ -8,6 +8,7 @@ pub mod Images
 pub mod Packets
 pub mod FieldOrder
 pub mod WellFormed
+pub mod FieldsFromIdentity
 pub mod Meaning
 pub mod Places
 pub mod Safety

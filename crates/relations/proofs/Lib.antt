@@ -4,3 +4,4 @@ pub mod ShortcutLaws
 pub mod Children
 pub mod Copied
 pub mod Naming
+pub mod Identities

@@ -17,8 +17,8 @@ const PLACES: usize = 60;
 
 /// What was compared.
 #[derive(Default)]
-struct Counts {
-    calls: u64,
+pub struct Counts {
+    pub calls: u64,
     memories: u64,
     /// Of the memories, those that are a store all the same.
     stores: u64,
@@ -50,7 +50,7 @@ pub fn compare(seed: u64, count: usize, part: Part, guard: Guard) -> Result<Stri
 }
 
 /// A small store that a drawn list leaves.
-fn drawn(random: &mut Random, part: Part) -> Store {
+pub fn drawn(random: &mut Random, part: Part) -> Store {
     let list = random.bits();
     let calls = 1 + random.below(120) as usize;
     let mut store = empty_store();
@@ -124,7 +124,7 @@ fn other(old: u32, random: &mut Random) -> u32 {
 }
 
 /// Makes every call of a part, and `new`, each on these memories.
-fn every_call(
+pub fn every_call(
     case: Case,
     part: Part,
     counts: &mut Counts,

@@ -56,7 +56,7 @@ impl Lent {
 /// The lengths of working memory that calls are lent in turn.
 pub struct WorkLengths(usize);
 
-const WORK: [usize; 6] = [0, 1, 7, 4096, 16384, 40000];
+pub const WORK: [usize; 6] = [0, 1, 7, 4096, 16384, 40000];
 
 /// The fields up to which any of them is lent: above, a call without memo may take very long.
 const ANY_WORK_FOR_SETS: u32 = 8;

@@ -8,6 +8,7 @@ mod library;
 mod lists;
 mod meaning;
 mod memory;
+mod orders;
 mod texts;
 
 use case::Difference;
@@ -18,6 +19,7 @@ use std::process::ExitCode;
 const USAGE: &str = "usage: compare calls SEED COUNT [sets | relations | both | policies]
        compare damage SEED COUNT [sets | relations | both | policies]
        compare bare SEED COUNT [sets | relations | both | policies]
+       compare orders SEED COUNT
        compare texts SEED COUNT
        compare growth";
 
@@ -48,6 +50,7 @@ fn run(words: &[&str]) -> Option<Result<String, Difference>> {
         }
         ["damage", ref words @ ..] => damaged(words, Guard::Words),
         ["bare", ref words @ ..] => damaged(words, Guard::Bare),
+        ["orders", seed, count] => Some(orders::compare(seed.parse().ok()?, count.parse().ok()?)),
         ["texts", seed, count] => Some(texts::compare(seed.parse().ok()?, count.parse().ok()?)),
         ["growth"] => Some(Ok(growth::measure())),
         _ => None,

@@ -1,9 +1,10 @@
--- `kept` asks the memo, else makes the nodes.
+-- `kept` asks the memo, else makes the nodes: from the identity where it is held, else field by field.
 use native.Mathlib.Omega.{arith}
 use borrow.Author.Tests.{not-true, not-false}
 use borrow.Author.Needs.{needs}
 use Rattle.memory.proofs.Remembering.{called-kept, recalled}
 use Rattle.memory.proofs.Steps.{begin, performs-stuck, given}
+use Rattle.relations.proofs.Identities.{performs-from-identity}
 use Rattle.relations.proofs.Naming.{fields-memo}
 use Rattle.relations.proofs.fields.kept.Statement.{statement}
 use Rattle.relations.proofs.fields.kept.Tie as tie
@@ -31,14 +32,32 @@ kept-spec =
     (λ c. search needs)
     (λ c κs. search needs)
     (λ c κs. search needs)
+    (λ c κs. search needs)
+    (λ c. search needs)
+    (λ c. search needs)
+    (λ c.
+    let after-from-identity = c .before .before .before .before .before .before .before .before in
+    let at-if3 = after-from-identity .before .before .before in
+    let after-held-identity = at-if3 .before in
+    let at-if2 = after-held-identity .before .before in
+    let after-bit = at-if2 .before .before .before .before .before in
+    let after-memo-number = after-bit .before in
+    let at-if1 = after-memo-number .before in
+    let entry = at-if1 .before .before .before .before in
+    called-kept _ _ _ _ (not-false _ (at-if1 .if1 .left)) (omega (arith, entry .fits .k .fits))
+    (fields-memo (entry .args .assigns) _ _ _ _ _ (after-memo-number .memo-number .ensures .0) (after-bit .bit .ensures)) begin
+    (performs-from-identity _ _ _ _ (after-held-identity .held-identity .ensures) (at-if3 .if3 .taken) (at-if2 .if2 .taken)
+    (after-from-identity .from-identity .ensures)) (c .before .before .remember .ensures))
+    (λ c κs. search needs)
+    (λ c κs. search needs)
     (λ c. search needs)
     (λ c. search needs)
     (λ c.
     let after-fields = c .before .before .before .before .before .before .before .before in
-    let after-bit = after-fields .before .before .before .before .before .before .before in
+    let after-bit = after-fields .before .before .before .before .before .before .before .before in
     let after-memo-number = after-bit .before in
     let at-if1 = after-memo-number .before in
     let entry = at-if1 .before .before .before .before in
     called-kept _ _ _ _ (not-false _ (at-if1 .if1 .left)) (omega (arith, entry .fits .k .fits))
     (fields-memo (entry .args .assigns) _ _ _ _ _ (after-memo-number .memo-number .ensures .0) (after-bit .bit .ensures)) begin (after-fields .fields .ensures)
-    (c .before .before .remember .ensures)))
+    (c .before .before .remember2 .ensures)))
