@@ -9,7 +9,8 @@
 
 #define RELATIONS_LEN PACKET_STORE_RELATIONS_LEN(PLACES)
 #define SETS_LEN PACKET_STORE_SETS_LEN(PLACES)
-#define WORK_LEN PACKET_STORE_WORK_LEN
+/* Strangers write the tables: four times the recommended working memory. */
+#define WORK_LEN (4 * PACKET_STORE_WORK_LEN)
 
 static uint32_t relations[RELATIONS_LEN], sets[SETS_LEN], work[WORK_LEN];
 

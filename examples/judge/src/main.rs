@@ -31,7 +31,8 @@ fn main() -> ExitCode {
 /// Whether two tables have one handle; a refused `new` is a refusal too.
 fn equal(k: u32, one: &str, other: &str) -> Result<bool, PolicyRefusal> {
     let (mut relations, mut sets) = (vec![0; relations_len(PLACES)], vec![0; sets_len(PLACES)]);
-    let mut work = vec![0; WORK_LEN];
+    // strangers write the tables: four times the recommended working memory
+    let mut work = vec![0; 4 * WORK_LEN];
     new(&mut relations, &mut sets, &mut work, k)?;
     let mut judge = |table: &str| policy(&mut relations, &sets, &mut work, table.as_bytes());
     Ok(judge(one)? == judge(other)?)
