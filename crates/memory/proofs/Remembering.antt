@@ -9,13 +9,13 @@ use native.Mathlib.Omega.{arith}
 use native.Mathlib.Nat.{add-assoc}
 use lib.ListN.{length, getD, drop}
 use Rattle.model.specs.Programs.{Prog, ret, Ran, run}
-use Rattle.model.specs.Safety.{Safe, Settled}
+use Rattle.model.specs.Safety.{Safe, Settled, ReducesTo}
 use Rattle.model.specs.Store.{Kind, set, rel, arity, Store, index, handle-of}
 use Rattle.model.proofs.Settle.{settled}
 use Rattle.memory.specs.declared.RunState.{RunState}
 use Rattle.memory.specs.declared.Lookup.{Lookup}
 use Rattle.memory.specs.declared.Lookup.the-variants.{Answer, Operands}
-use Rattle.memory.specs.Performing.{Ready, Condition, PerformsOn, ReducesTo, ReducesOn, looked-up, LooksUpOn, Recalls, KeepsEntry, Remembered}
+use Rattle.memory.specs.Performing.{Ready, Condition, PerformsOn, ReducesOn, looked-up, LooksUpOn, Recalls, KeepsEntry, Remembered}
 use Rattle.memory.specs.Memo.{memo-program}
 use Rattle.memory.specs.Rows.{row, places, plain}
 use Rattle.memory.specs.Working.{memo-size, links-at, words-at, Indexed, Known, tag, Entry, Remembers, Right, index-size, set-words-from, part-size}
