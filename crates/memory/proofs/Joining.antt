@@ -20,6 +20,7 @@ use Rattle.model.specs.WellFormed.{Distinct, WellFormed, Extends}
 use Rattle.model.proofs.Extends.{ext-held}
 use Rattle.model.proofs.Levels.{held-once, held-at}
 use Rattle.model.proofs.Mk.{Had, had, mk-ext, handle-big, mk-formed}
+use Rattle.model.proofs.Reducing.{formed-more}
 use Rattle.model.proofs.Settle.{agrees-kept, settled-later}
 use Rattle.model.proofs.Signs.{index-handle, with-sign-zero}
 use Rattle.model.proofs.Tests.{empty}
@@ -73,21 +74,6 @@ known-later {S = S} {S′ = S′} J i v F E l f z n A =
       identity = λ q. agrees-kept _ J (a .0) h E (a .2) ∙ b .identity q;
       level = b .level;
     })
-
--- MORE FIELDS do no harm
-formed-more : {k k′ : ℕ} {S : Store} → k ≤ k′ → WellFormed k S → WellFormed k′ S
-formed-more l F = record {
-  fits = λ K i h. let f = F .fits K i h in record {
-    sized = f .sized;
-    level = f .level;
-    under = omega
-        (arith, f .under);
-    below = f .below;
-    earlier = f .earlier;
-    even = f .even;
-  };
-  distinct = F .distinct;
-}
 
 pub entry-later : (x y : ℕ) {S S′ : Store} → Extends S S′ → Entry x y S → Entry x y S′
 unfolding Entry

@@ -9,13 +9,13 @@ use native.Mathlib.Omega.{arith}
 use native.Mathlib.Nat.{add-assoc}
 use lib.ListN.{length, getD, drop}
 use Rattle.model.specs.Programs.{Prog, ret, Ran, run}
-use Rattle.model.specs.Safety.{Safe, Settled}
+use Rattle.model.specs.Safety.{Safe, Settled, ReducesTo}
 use Rattle.model.specs.Store.{Kind, set, rel, arity, Store, index, handle-of}
 use Rattle.model.proofs.Settle.{settled}
 use Rattle.memory.specs.declared.RunState.{RunState}
 use Rattle.memory.specs.declared.Lookup.{Lookup}
 use Rattle.memory.specs.declared.Lookup.the-variants.{Answer, Operands}
-use Rattle.memory.specs.Performing.{Ready, Condition, PerformsOn, ReducesTo, ReducesOn, looked-up, LooksUpOn, Recalls, KeepsEntry, Remembered}
+use Rattle.memory.specs.Performing.{Ready, Condition, PerformsOn, ReducesOn, looked-up, LooksUpOn, Recalls, KeepsEntry, Remembered}
 use Rattle.memory.specs.Memo.{memo-program}
 use Rattle.memory.specs.Rows.{places, plain}
 use Rattle.memory.specs.Working.{memo-size, links-at, words-at, Indexed, Known, Entry, Remembers, Right, index-size, set-words-from, part-size}
@@ -54,10 +54,9 @@ memo-kept {w = w} {w′} {S} k s m j f =
     ]
 
 -- a call that runs an operation of the memo's table may keep its answer there
-pub performs-remember : {Q : Condition} {K : Kind} {p : Prog} {s r : RunState} {m m′ w w₁ w₂ : List ℕ} (op l a b : ℕ) → p ≡ memo-program op l a b → l < 256
-    → PerformsOn Q K p s m m′ w w₁ r
-    → Remembered r op l a b w₁ w₂ → PerformsOn Q K p s m m′ w w₂ r
-performs-remember {Q} {K} {p} {s} {r} {m} {m′} {w} {w₁} {w₂} op l a b e i d k = record {
+pub performs-remember : {Q : Condition} {K : Kind} {p : Prog} {s r : RunState} {m m′ w w₁ w₂ : List ℕ} (op l a b : ℕ) → p ≡ memo-program op l a b
+    → PerformsOn Q K p s m m′ w w₁ r → Remembered r op l a b w₁ w₂ → PerformsOn Q K p s m m′ w w₂ r
+performs-remember {Q} {K} {p} {s} {r} {m} {m′} {w} {w₁} {w₂} op l a b e d k = record {
   runs = λ B q R. let c = d .runs B q R in record {
     okay = c .okay;
     done = λ t. let f = c .done t in let g = k .kept t in record {
@@ -86,11 +85,11 @@ performs-remember {Q} {K} {p} {s} {r} {m} {m′} {w} {w₁} {w₂} op l a b e i 
         (subst (λ (Q : Ran). Settled p (Q .store) (Q .value)) (sym (done-ran c t)) (settled p S (R .live (was-ok c t) .safe)))
 
 -- what is left is done and kept in the memo
-pub called-kept : {Q : Condition} {K : Kind} {p n : Prog} {s r q : RunState} {m m′ w w₁ w₂ : List ℕ} (op l a b : ℕ) → s .ok ≡ true → l < 256
+pub called-kept : {Q : Condition} {K : Kind} {p n : Prog} {s r q : RunState} {m m′ w w₁ w₂ : List ℕ} (op l a b : ℕ) → s .ok ≡ true
     → n ≡ memo-program op l a b → ReducesOn Q K p n m w → PerformsOn Q K n s m m′ w w₁ r → (q ≡ r) × Remembered r op l a b w₁ w₂
     → PerformsOn Q K p s m m′ w w₂ q
-called-kept {Q} {K} {p} {s = s} {m = m} {m′ = m′} {w = w} {w₂ = w₂} op l a b ok i e u d k =
-    subst (λ z. PerformsOn Q K p s m m′ w w₂ z) (sym (k .0)) (called ok u (performs-remember op l a b e i d (k .1)))
+called-kept {Q} {K} {p} {s = s} {m = m} {m′ = m′} {w = w} {w₂ = w₂} op l a b ok e u d k =
+    subst (λ z. PerformsOn Q K p s m m′ w w₂ z) (sym (k .0)) (called ok u (performs-remember op l a b e d (k .1)))
 
 -- the memo knows the answer of what is left
 pub recalled : {Q : Condition} {K : Kind} {p q : Prog} {m w : List ℕ} {h : ℕ} {r : Lookup} (op l a b : ℕ) → q ≡ memo-program op l a b → ReducesOn Q K p q m w

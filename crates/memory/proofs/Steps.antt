@@ -10,7 +10,7 @@ use lib.Seq.{drop-drop, take-take}
 use lib.Dec.{eqb, ltb, leb}
 use borrow.Author.Tests.{le-leb, lt-leb, leb-false}
 use Rattle.model.specs.Programs.{isEmpty, isUniversal, isIdentity, Test, same, less, has, holds, Prog, panic, ret, ask, look, bind, Ran, ran, run}
-use Rattle.model.specs.Safety.{Sure, Safe}
+use Rattle.model.specs.Safety.{Sure, Safe, ReducesTo}
 use Rattle.model.specs.Store.{Kind, rel, arity, Store, nodes}
 use Rattle.model.specs.WellFormed.{Extends}
 use Rattle.model.proofs.Bools.{by-test}
@@ -19,7 +19,7 @@ use Rattle.memory.specs.declared.RunState.{RunState}
 use Rattle.memory.specs.declared.Properties.{Properties}
 use Rattle.memory.specs.declared.Lookup.{Lookup}
 use Rattle.memory.specs.declared.Lookup.the-variants.{Answer, Operands}
-use Rattle.memory.specs.Performing.{run-state, Ready, ends, Writes, Runs, Condition, PerformsOn, Performs, ReducesTo, ReducesOn, looked-up, LooksUpOn}
+use Rattle.memory.specs.Performing.{run-state, Ready, ends, Writes, Runs, Condition, PerformsOn, Performs, ReducesOn, looked-up, LooksUpOn}
 use Rattle.memory.specs.Performing.{ReadsChildren, KnowsProperties}
 use Rattle.memory.specs.Rows.{places, plain, places-of}
 use Rattle.memory.specs.Working.{Right}
@@ -57,6 +57,10 @@ false≢true e = let z : _≡_ {A = ℕ} 0 1 = cc in omega arith
 and-left : (a b : Bool) → (a && b) ≡ true → a ≡ true
 and-left true b e = refl
 and-left false b e = e
+
+and-same : (b : Bool) {c d : Bool} → (b ≡ true → c ≡ d) → (b && c) ≡ (b && d)
+and-same true e = e refl
+and-same false e = refl
 
 -- nothing is done after a failure
 pub performs-stuck : {Q : Condition} {K : Kind} {p : Prog} {s : RunState} {m w : List ℕ} → s .ok ≡ false → PerformsOn Q K p s m m w w s
@@ -146,9 +150,7 @@ pub performs-left : {Q : Condition} {K : Kind} {p q : Prog} {s r : RunState} {m 
 unfolding ends
 performs-left {Q} {K} {p} {q} {s} {m = m} {w = w} u d = record {
   runs = λ B c R. let b = d .runs B c (record { room = R .room; live = λ t. record { safe = left B c R t .safe; work = R .live t .work } }) in record {
-    okay = b .okay ∙ by-test
-        (λ x. s .ok ≡ x → (x && leb (ends K q (plain K B m (s .n))) (places (arity K) m)) ≡ (x && leb (ends K p (plain K B m (s .n))) (places (arity K) m)))
-        (s .ok) (λ e t. ap (λ (Q : Ran). leb (length (nodes K (Q .store))) (places (arity K) m)) (sym (left B c R t .runs))) (λ e t. refl) refl;
+    okay = b .okay ∙ and-same (s .ok) (λ t. ap (λ (Q : Ran). leb (length (nodes K (Q .store))) (places (arity K) m)) (sym (left B c R t .runs)));
     done = λ t. let e = sym (left B c R (was-ok b t) .runs) in record {
       store = b .done t .store ∙ ap (λ (Q : Ran). Q .store) e;
       value = b .done t .value ∙ ap (λ (Q : Ran). Q .value) e;
@@ -201,14 +203,20 @@ module _ {Q : Condition} {K : Kind} {p : Prog} {m w : List ℕ} where
     safe = subst (λ y. Safe (f y) (plain K B m n)) e (a .1);
   })
 
-  -- RETURNS: all that is left is done by a call; a number is left; nothing can be left at level 0
+  -- RETURNS: all that is left is done by a call, after a failure or not; a number is left; nothing can be left at level 0
+  pub reduced : {q : Prog} {s r : RunState} {m′ w′ : List ℕ} → ReducesOn Q K p q m w → PerformsOn Q K q s m m′ w w′ r → PerformsOn Q K p s m m′ w w′ r
+  reduced {s = s} u = performs-left (λ B c. u .left B c (s .n))
+
   pub called : {q : Prog} {s r : RunState} {m′ w′ : List ℕ} → s .ok ≡ true → ReducesOn Q K p q m w → PerformsOn Q K q s m m′ w w′ r
       → PerformsOn Q K p s m m′ w w′ r
-  called {s = s} ok u d = performs-left (λ B c. u .left B c (s .n)) d
+  called ok = reduced
 
   pub impossible : {s r : RunState} {m′ w′ : List ℕ} → s .ok ≡ true → ReducesOn Q K p panic m w → PerformsOn Q K p s m m′ w w′ r
   unfolding Safe
   impossible {s = s} ok u = record { runs = λ B c R. let F = R .live ok in absurd (u .left B c (s .n) (R .room) (F .safe) (F .work) .safe) }
+
+  pub never : {s : RunState} → ReducesOn Q K p panic m w → PerformsOn Q K p s m m w w s
+  never {s} u = by-test (λ b. s .ok ≡ b → PerformsOn Q K p s m m w w s) (s .ok) (λ _ e. impossible e u) (λ _ e. performs-stuck e) refl
 
 -- tests on numbers, and on known properties
 pub same-says : {Q : Condition} {K : Kind} {m w : List ℕ} {a b : ℕ} {v : Bool} → eqb a b ≡ v → TestIs Q K m w (same a b) v

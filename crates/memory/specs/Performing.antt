@@ -10,7 +10,7 @@ use lib.Dec.{leb}
 use Rattle.model.specs.Store.{Kind, set, rel, arity, Store, nodes, handle-of, sign, stored, get}
 use Rattle.model.specs.Programs.{Prog, mk, ran, run}
 use Rattle.model.specs.WellFormed.{Held, WellFormed}
-use Rattle.model.specs.Safety.{Within, Safe}
+use Rattle.model.specs.Safety.{Within, Safe, ReducesTo}
 use Rattle.memory.specs.Rows.{rows, places, plain, most-places}
 use Rattle.memory.specs.Working.{memo-size, Has, Words, entry-op, entry-level, entry-left, entry-right, entry-result, Remembers, Right}
 use Rattle.memory.specs.Memo.{memo-program}
@@ -78,11 +78,6 @@ other rel = set
 pub record OtherNodes (K : Kind) (o : List ℕ) (j : ℕ) (B : Store) : Type 0 where
   pub read : nodes (other K) B ≡ rows (arity (other K)) j o
   pub within : j ≤ places (arity (other K)) o
-
--- REDUCES: in S the program p runs as q, which is safe there
-pub record ReducesTo (p q : Prog) (S : Store) : Type 0 where
-  pub runs : run p S ≡ run q S
-  pub safe : Safe q S
 
 -- what is left of p is q, over each store with Q; over every store
 pub record ReducesOn (Q : Condition) (K : Kind) (p q : Prog) (m w : List ℕ) : Type 0 where

@@ -10,10 +10,12 @@ pub mod Tests
 pub mod Recursion
 pub mod Settle
 pub mod Bounded
+pub mod Reducing
 pub mod Constants
 pub mod Pointwise
 pub mod Pairs
 pub mod Sequence
+pub mod Diagonal
 pub mod Kleene
 pub mod Star
 pub mod Fields

@@ -37,6 +37,11 @@ Safe (bind p f) S = Safe p S × Safe (f (run p S .value)) (run p S .store)
 pub record Settled (p : Prog) (S : Store) (r : ℕ) : Type 0 where
   pub again : (S′ : Store) → Extends S S′ → run p S′ ≡ ran S′ r
 
+-- REDUCES: in S the program p runs as q, which is safe there
+pub record ReducesTo (p q : Prog) (S : Store) : Type 0 where
+  pub runs : run p S ≡ run q S
+  pub safe : Safe q S
+
 -- p makes no node
 unfoldable pub ReadOnly : Prog → Type 0
 ReadOnly panic = Unit {0}

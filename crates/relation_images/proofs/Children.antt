@@ -25,7 +25,7 @@ opened {K} short kids l x h X = read-of-other (by begin (node1-open (on-other K 
 
 -- two calls in order, then f of their handles, and the memo keeps the answer
 pub two-returns : {Q : Condition} {K : Kind} {p n q0 q1 : Prog} {f : ℕ → ℕ → Prog} {s r0 r1 r q : RunState} {m m0 m1 m2 w w0 w1 w2 w3 : List ℕ} (op l x y : ℕ)
-    → s .ok ≡ true → l < 256 → n ≡ memo-program op l x y → ReducesOn Q K p n m w → ReducesOn Q K n (q0 >>= λ a. q1 >>= λ b. f a b) m w
+    → s .ok ≡ true → n ≡ memo-program op l x y → ReducesOn Q K p n m w → ReducesOn Q K n (q0 >>= λ a. q1 >>= λ b. f a b) m w
     → PerformsOn Q K q0 s m m0 w w0 r0 → PerformsOn Q K q1 r0 m0 m1 w0 w1 r1 → PerformsOn Q K (f (r0 .h) (r1 .h)) r1 m1 m2 w1 w2 r
     → (q ≡ r) × Remembered r op l x y w2 w3 → PerformsOn Q K p s m m2 w w3 q
-two-returns op l x y ok b e u o d0 d1 d k = called-kept op l x y ok b e u (called ok o (performs-then d0 (performs-then d1 d))) k
+two-returns op l x y ok e u o d0 d1 d k = called-kept op l x y ok e u (called ok o (performs-then d0 (performs-then d1 d))) k

@@ -37,7 +37,7 @@ fn image_tests(
     x: u32,
     y: u32,
 ) -> ImageShortcut
-    requires { ⌜ (0 < op) × (op < op-limit) ⌝ }
+    requires { ⌜ op < op-limit ⌝ }
     ensures { λ r. ⌜ ((j : ℕ) (whole node : Prog) → node ≡ memo-program op level x y
         → ImageReduces (OtherNodes set (now (relations .entry)) j) (image-short level p a whole node) level whole node
         (now (sets .entry)) (now (work .entry)) r) ⌝ }

@@ -96,11 +96,11 @@ module _ {Q : Condition} {t : Prog} {l p a q : ℕ} {m w : List ℕ} {r : PathSh
   node-left e = rest-left e
 
 -- the answer is kept where the memo has a number for it
-pub path-returns : {Q : Condition} {t n : Prog} {s r z : RunState} {m m₁ w w₁ w₂ : List ℕ} (l p a q : ℕ) → s .ok ≡ true → l < 256
+pub path-returns : {Q : Condition} {t n : Prog} {s r z : RunState} {m m₁ w w₁ w₂ : List ℕ} (l p a q : ℕ) → s .ok ≡ true
     → ReducesOn Q set t (has-path-node l p a q) m w → ReducesOn Q set (has-path-node l p a q) n m w → PerformsOn Q set n s m m₁ w w₁ r
     → (z ≡ r) × ((w₂ ≡ w₁) ⊎ Remembered r (1024 + q) l p a w₁ w₂) → PerformsOn Q set t s m m₁ w w₂ z
-path-returns {Q} {t} {n} {s} {r} {z} {m} {m₁} {w} {w₁} {w₂} l p a q ok b u o d k = called ok u
+path-returns {Q} {t} {n} {s} {r} {z} {m} {m₁} {w} {w₁} {w₂} l p a q ok u o d k = called ok u
     (subst (λ y. PerformsOn Q set (has-path-node l p a q) s m m₁ w w₂ y) (sym (k .0)) (elim (k .1) [
       | inl e ↦ subst (λ v. PerformsOn Q set (has-path-node l p a q) s m m₁ w v r) (sym e) (called ok o d)
-      | inr f ↦ performs-remember _ l p a (path-memo l p a q) b (called ok o d) f
+      | inr f ↦ performs-remember _ l p a (path-memo l p a q) (called ok o d) f
     ]))

@@ -51,6 +51,77 @@ fn sums(
     relations::mk(nodes, work, x11, x00.h, x01.h, x10.h, x11.h)
 }
 
+// The product of two nodes: eight products of children, and their sums.
+fn matrix(
+    nodes: &mut [u32],
+    work: &mut [u32],
+    s: RunState,
+    level: u8,
+    p: relations::SPPnode,
+    q: relations::SPPnode,
+) -> RunState
+    ensures { λ r. ⌜ Performs rel (sequence-op .kids level (sequence level) (p .x00 ∷ p .x01 ∷ p .x10 ∷ p .x11 ∷ []) (q .x00 ∷ q .x01 ∷ q .x10 ∷ q .x11 ∷ []))
+        s (now (nodes .entry)) (now (nodes .exit)) (now (work .entry)) (now (work .exit)) r ⌝ }
+{
+    let a00b00 = sequence(nodes, work, s, level, p.x00, q.x00);
+    let a01b10 = sequence(nodes, work, a00b00, level, p.x01, q.x10);
+    let a00b01 = sequence(nodes, work, a01b10, level, p.x00, q.x01);
+    let a01b11 = sequence(nodes, work, a00b01, level, p.x01, q.x11);
+    let a10b00 = sequence(nodes, work, a01b11, level, p.x10, q.x00);
+    let a11b10 = sequence(nodes, work, a10b00, level, p.x11, q.x10);
+    let a10b01 = sequence(nodes, work, a11b10, level, p.x10, q.x01);
+    let a11b11 = sequence(nodes, work, a10b01, level, p.x11, q.x11);
+    let left = relations::SPPnode {
+        x00: a00b00.h,
+        x01: a00b01.h,
+        x10: a10b00.h,
+        x11: a10b01.h,
+    };
+    let right = relations::SPPnode {
+        x00: a01b10.h,
+        x01: a01b11.h,
+        x10: a11b10.h,
+        x11: a11b11.h,
+    };
+    sums(nodes, work, a11b11, level, left, right)
+}
+
+// The product of two relations where no shortcut answers. With the empty relation off the diagonal of the second, four products of children are left; and one,
+// where the first has it there too and each node has one child on the diagonal.
+fn sequence_node(
+    nodes: &mut [u32],
+    work: &mut [u32],
+    s: RunState,
+    level: u8,
+    x: u32,
+    y: u32,
+) -> RunState
+    ensures { λ r. ⌜ Performs rel (node2 sequence-op level x y) s (now (nodes .entry)) (now (nodes .exit)) (now (work .entry)) (now (work .exit)) r ⌝ }
+{
+    if level == 0 {
+        return s;
+    }
+    let p = relations::get(nodes, x);
+    let q = relations::get(nodes, y);
+    let below = level - 1;
+    if q.x01 != q.x10 {
+        return matrix(nodes, work, s, below, p, q);
+    }
+    let z = memory::property_words::relation_properties(nodes, work, below, q.x01);
+    if !z.empty {
+        return matrix(nodes, work, s, below, p, q);
+    }
+    if relations::lifted(p, q) {
+        let r = sequence(nodes, work, s, below, p.x00, q.x00);
+        return relations::mk(nodes, work, r, r.h, q.x01, q.x01, r.h);
+    }
+    let r00 = sequence(nodes, work, s, below, p.x00, q.x00);
+    let r01 = sequence(nodes, work, r00, below, p.x01, q.x11);
+    let r10 = sequence(nodes, work, r01, below, p.x10, q.x00);
+    let r11 = sequence(nodes, work, r10, below, p.x11, q.x11);
+    relations::mk(nodes, work, r11, r00.h, r01.h, r10.h, r11.h)
+}
+
 pub fn sequence(
     nodes: &mut [u32],
     work: &mut [u32],
@@ -70,33 +141,7 @@ pub fn sequence(
     match found {
         memory::Lookup::Answer(h) => memory::insert::with_handle(t, h),
         memory::Lookup::Operands(x, y) => {
-            if level == 0 {
-                return t;
-            }
-            let p = relations::get(nodes, x);
-            let q = relations::get(nodes, y);
-            let below = level - 1;
-            let a00b00 = sequence(nodes, work, t, below, p.x00, q.x00);
-            let a01b10 = sequence(nodes, work, a00b00, below, p.x01, q.x10);
-            let a00b01 = sequence(nodes, work, a01b10, below, p.x00, q.x01);
-            let a01b11 = sequence(nodes, work, a00b01, below, p.x01, q.x11);
-            let a10b00 = sequence(nodes, work, a01b11, below, p.x10, q.x00);
-            let a11b10 = sequence(nodes, work, a10b00, below, p.x11, q.x10);
-            let a10b01 = sequence(nodes, work, a11b10, below, p.x10, q.x01);
-            let a11b11 = sequence(nodes, work, a10b01, below, p.x11, q.x11);
-            let left = relations::SPPnode {
-                x00: a00b00.h,
-                x01: a00b01.h,
-                x10: a10b00.h,
-                x11: a10b01.h,
-            };
-            let right = relations::SPPnode {
-                x00: a01b10.h,
-                x01: a01b11.h,
-                x10: a11b10.h,
-                x11: a11b11.h,
-            };
-            let r = sums(nodes, work, a11b11, below, left, right);
+            let r = sequence_node(nodes, work, t, level, x, y);
             memory::memo::remember(work, r, memory::memo::SEQUENCE, level, x, y)
         }
     }

@@ -32,9 +32,9 @@ module _ {m w : List ℕ} where
 
 -- four calls in order, then f of their handles, and the memo keeps the answer
 pub four-returns : {Q : Condition} {K : Kind} {p n q0 q1 q2 q3 : Prog} {f : ℕ → ℕ → ℕ → ℕ → Prog} {s r0 r1 r2 r3 r q : RunState}
-    {m m0 m1 m2 m3 m4 w w0 w1 w2 w3 w4 w5 : List ℕ} (op l x y : ℕ) → s .ok ≡ true → l < 256 → n ≡ memo-program op l x y
+    {m m0 m1 m2 m3 m4 w w0 w1 w2 w3 w4 w5 : List ℕ} (op l x y : ℕ) → s .ok ≡ true → n ≡ memo-program op l x y
     → ReducesOn Q K p n m w → ReducesOn Q K n (four q0 q1 q2 q3 f) m w
     → PerformsOn Q K q0 s m m0 w w0 r0 → PerformsOn Q K q1 r0 m0 m1 w0 w1 r1 → PerformsOn Q K q2 r1 m1 m2 w1 w2 r2 → PerformsOn Q K q3 r2 m2 m3 w2 w3 r3
     → PerformsOn Q K (f (r0 .h) (r1 .h) (r2 .h) (r3 .h)) r3 m3 m4 w3 w4 r → (q ≡ r) × Remembered r op l x y w4 w5 → PerformsOn Q K p s m m4 w w5 q
-four-returns op l x y ok b e u o d0 d1 d2 d3 d k =
-    called-kept op l x y ok b e u (called ok o (performs-then d0 (performs-then d1 (performs-then d2 (performs-then d3 d))))) k
+four-returns op l x y ok e u o d0 d1 d2 d3 d k =
+    called-kept op l x y ok e u (called ok o (performs-then d0 (performs-then d1 (performs-then d2 (performs-then d3 d))))) k

@@ -3,9 +3,9 @@ use mathlib.Core.Path.{_≡_, sym, _∙_, subst}
 use mathlib.Core.List.{List}
 use Prim.Native.Nat.{ℕ}
 use Rattle.model.specs.Programs.{Prog, ret, run}
-use Rattle.model.specs.Safety.{Safe}
+use Rattle.model.specs.Safety.{Safe, ReducesTo}
 use Rattle.model.specs.Store.{rel, Store}
-use Rattle.memory.specs.Performing.{ReducesTo, looked-up, LooksUp, Reduces}
+use Rattle.memory.specs.Performing.{looked-up, LooksUp, Reduces}
 use Rattle.memory.specs.Rows.{plain}
 use Rattle.memory.specs.declared.Lookup.{Lookup}
 use Rattle.memory.specs.declared.Lookup.the-variants as lookup

@@ -1,2 +1,3 @@
 pub mod Shortcuts
 pub mod Fields
+pub mod Shapes

@@ -5,8 +5,7 @@ use Prim.Native.Nat.{ℕ, _≤_}
 use Rattle.model.specs.Store.{rel, Store}
 use Rattle.model.specs.Programs.{isEmpty, isUniversal, less, has, Prog, ret, ask, ran, run}
 use Rattle.model.specs.Operations.{complement}
-use Rattle.model.specs.Safety.{Safe}
-use Rattle.memory.specs.Performing.{ReducesTo}
+use Rattle.model.specs.Safety.{Safe, ReducesTo}
 use Rattle.memory.specs.Rows.{places, plain}
 use Rattle.memory.specs.Working.{Right}
 use Rattle.memory.specs.declared.Lookup.{Lookup}

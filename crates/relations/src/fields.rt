@@ -15,7 +15,7 @@ use memory::RunState;
 
 // The number of `assign` or of `test`.
 fn memo_number(assigns: bool) -> u32
-    ensures { λ r. ⌜ (r ≡ pick assigns op-assign op-test) × (0 < r) × (r < op-limit) ⌝ }
+    ensures { λ r. ⌜ (r ≡ pick assigns op-assign op-test) × (r < op-limit) ⌝ }
 {
     if assigns {
         memory::memo::ASSIGN

@@ -1,6 +1,7 @@
 // Relations on packets, after spp.rs: operations on relation nodes in a lent slice. Each runs its program of `model` for every working memory.
 ghost use mathlib.Core.Path.{_≡_};
 ghost use mathlib.Core.List.{[], _∷_};
+ghost use mathlib.Core.Bool.{true, false};
 ghost use Prim.Native.Nat.{_≤_};
 ghost use Rattle.model.specs.Store.{rel};
 ghost use Rattle.model.specs.Programs.{Prog};
@@ -8,6 +9,7 @@ ghost use Rattle.model.specs.Operations.{constant, identity-at-depth, is-zero, 
 ghost use Rattle.model.specs.Relations.{flip};
 ghost use Rattle.memory.specs.Performing.{Performs, ReadsChildren};
 ghost use Rattle.memory.specs.Noting.{LevelIs};
+ghost use Rattle.relations.specs.Shapes.{Lifted};
 use memory::RunState;
 
 pub mod fields;
@@ -42,6 +44,26 @@ pub fn get(nodes: &[u32], spp: u32) -> SPPnode
         x10: x10,
         x11: x11,
     }
+}
+
+// Whether the nodes are (a, z, z, a) and (b, z, z, b).
+pub fn lifted(p: SPPnode, q: SPPnode) -> bool
+    ensures yes { λ r. ⌜ (r ≡ true → Lifted (p .x00 ∷ p .x01 ∷ p .x10 ∷ p .x11 ∷ []) (q .x00 ∷ q .x01 ∷ q .x10 ∷ q .x11 ∷ [])) ⌝ }
+    ensures no { λ r. ⌜ (r ≡ false → Lifted (p .x00 ∷ p .x01 ∷ p .x10 ∷ p .x11 ∷ []) (q .x00 ∷ q .x01 ∷ q .x10 ∷ q .x11 ∷ []) → ⊥) ⌝ }
+{
+    if p.x11 != p.x00 {
+        return false;
+    }
+    if q.x11 != q.x00 {
+        return false;
+    }
+    if p.x01 != q.x01 {
+        return false;
+    }
+    if p.x10 != q.x01 {
+        return false;
+    }
+    q.x10 == q.x01
 }
 
 // The node held, else a new one.

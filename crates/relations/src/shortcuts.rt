@@ -12,7 +12,7 @@ ghost use Rattle.relations.specs.Shortcuts.{TakesShortcut, shortcut-of, 
 
 // What the memo holds on an operation on a and b, the lesser first.
 pub(crate) fn ordered(work: &[u32], op: u32, level: u8, a: u32, b: u32) -> memory::Lookup
-    requires { ⌜ (0 < op) × (op < op-limit) ⌝ }
+    requires { ⌜ op < op-limit ⌝ }
     ensures { λ r. ⌜ ((node : ℕ → ℕ → Prog) (m : List ℕ) → ((x y : ℕ) → node x y ≡ memo-program op level x y)
         → LooksUp rel (ask (less b a) (node b a) (node a b)) node m (now (work .entry)) r) ⌝ }
 {
@@ -34,7 +34,7 @@ pub(crate) fn lattice_tests(
     x: u32,
     y: u32,
 ) -> memory::Lookup
-    requires { ⌜ (0 < op) × (op < op-limit) ⌝ }
+    requires { ⌜ op < op-limit ⌝ }
     ensures { λ r. ⌜ ((node : ℕ → ℕ → Prog) (m : List ℕ) → ((i j : ℕ) → node i j ≡ memo-program op level i j)
         → KnowsProperties rel m (now (work .entry)) level a pa → KnowsProperties rel m (now (work .entry)) level b pb
         → LooksUp rel (lattice-tests level a b x y node) node m (now (work .entry)) r) ⌝ }

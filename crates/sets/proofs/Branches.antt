@@ -12,10 +12,10 @@ use Rattle.memory.proofs.Steps.{performs-then, begin, by, looked, called}
 use Rattle.memory.specs.declared.RunState.{RunState}
 use Rattle.sets.proofs.Opened.{ifelse-here, ifelse-below, ifelse-memo}
 
-module _ {s r q : RunState} {m m′ w w₁ w₂ : List ℕ} (l v t e : ℕ) (b : l < 256) (i : v < 256) where
+module _ {s r q : RunState} {m m′ w w₁ w₂ : List ℕ} (l v t e : ℕ) (i : v < 256) where
   remembers : Performs set (ifelse l v t e) s m m′ w w₁ r → (q ≡ r) × Remembered r (64 + v) l t e w₁ w₂ → Performs set (ifelse l v t e) s m m′ w w₂ q
   remembers d k = subst (λ z. Performs set (ifelse l v t e) s m m′ w w₂ z) (sym (k .0))
-      (performs-remember (64 + v) l t e (ifelse-memo l v t e i) b d (k .1))
+      (performs-remember (64 + v) l t e (ifelse-memo l v t e i) d (k .1))
 
   -- the field is that of the operands' nodes
   pub here-returns : {t0 t1 e0 e1 : ℕ} → s .ok ≡ true → (l ≡ 0 → ⊥) → v ≡ 0 → ReadsChildren set m t (t0 ∷ t1 ∷ []) → ReadsChildren set m e (e0 ∷ e1 ∷ [])

@@ -128,8 +128,7 @@ unfolding bwd-program
     let at-if3 = after-get .before in
     let at-if2 = at-if3 .before .before .before .before .before in
     let at-if1 = at-if2 .before in
-    let entry = at-if1 .before .before .before .before .before in
-    four-returns 15 _ _ _ (not-false _ (at-if1 .if1 .left)) (omega (arith, entry .fits .level .fits)) (bwd-memo _ _)
+    four-returns 15 _ _ _ (not-false _ (at-if1 .if1 .left)) (bwd-memo _ _)
     (no (by begin (bwd-is _ _)) (less-says (le-ltb _ 2 (at-if2 .if2 .left)))) (opened _ _ _ _ (at-if3 .if3 .left) (after-get .get .ensures))
     (after-bwd .bwd .ensures j)
     (after-bwd2 .bwd2 .ensures j) (after-bwd3 .bwd3 .ensures j) (after-bwd4 .bwd4 .ensures j) (performs-on (after-two-unions .two-unions .ensures))

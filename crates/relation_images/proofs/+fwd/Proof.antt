@@ -128,8 +128,7 @@ unfolding fwd-program
     let at-if3 = after-get .before in
     let at-if2 = at-if3 .before .before .before .before .before in
     let at-if1 = at-if2 .before in
-    let entry = at-if1 .before .before .before .before .before in
-    four-returns 14 _ _ _ (not-false _ (at-if1 .if1 .left)) (omega (arith, entry .fits .level .fits)) (fwd-memo _ _)
+    four-returns 14 _ _ _ (not-false _ (at-if1 .if1 .left)) (fwd-memo _ _)
     (no (by begin (fwd-is _ _)) (less-says (le-ltb _ 2 (at-if2 .if2 .left)))) (opened _ _ _ _ (at-if3 .if3 .left) (after-get .get .ensures))
     (after-fwd .fwd .ensures j)
     (after-fwd2 .fwd2 .ensures j) (after-fwd3 .fwd3 .ensures j) (after-fwd4 .fwd4 .ensures j) (performs-on (after-two-unions .two-unions .ensures))

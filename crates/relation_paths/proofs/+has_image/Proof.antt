@@ -81,8 +81,7 @@ pub +has-image-spec : {M : Type 1} → statement M
     let after-found2 = at-if2 .before .before in
     let after-has-image-tests = after-found2 .before .before in
     let at-if1 = after-has-image-tests .before .before in
-    let entry = at-if1 .before .before .before .before .before in
-    called-kept 20 _ _ _ (not-false _ (at-if1 .if1 .left)) (omega (arith, entry .fits .level .fits)) (image-memo _ _ _)
+    called-kept 20 _ _ _ (not-false _ (at-if1 .if1 .left)) (image-memo _ _ _)
     (node-reduces (after-has-image-tests .has-image-tests .ensures j) (after-found2 .found2 .given .1))
     (called (not-false _ (at-if1 .if1 .left)) (image-opened _ _ _ (at-if2 .if2 .left) (after-get .get .ensures) (after-get2 .get2 .ensures))
     (or-yes (after-has-image .has-image .ensures j) (at-if3 .if3 .taken))) (c .before .before .remember .ensures))
@@ -106,8 +105,7 @@ pub +has-image-spec : {M : Type 1} → statement M
     let after-found2 = at-if2 .before .before in
     let after-has-image-tests = after-found2 .before .before in
     let at-if1 = after-has-image-tests .before .before in
-    let entry = at-if1 .before .before .before .before .before in
-    called-kept 20 _ _ _ (not-false _ (at-if1 .if1 .left)) (omega (arith, entry .fits .level .fits)) (image-memo _ _ _)
+    called-kept 20 _ _ _ (not-false _ (at-if1 .if1 .left)) (image-memo _ _ _)
     (node-reduces (after-has-image-tests .has-image-tests .ensures j) (after-found2 .found2 .given .1))
     (called (not-false _ (at-if1 .if1 .left)) (image-opened _ _ _ (at-if2 .if2 .left) (after-get .get .ensures) (after-get2 .get2 .ensures))
     (or-no (after-has-image .has-image .ensures j) (at-if3 .if3 .left) (or-yes (after-has-image2 .has-image2 .ensures j) (at-if4 .if4 .taken))))
@@ -136,8 +134,7 @@ pub +has-image-spec : {M : Type 1} → statement M
     let after-found2 = at-if2 .before .before in
     let after-has-image-tests = after-found2 .before .before in
     let at-if1 = after-has-image-tests .before .before in
-    let entry = at-if1 .before .before .before .before .before in
-    called-kept 20 _ _ _ (not-false _ (at-if1 .if1 .left)) (omega (arith, entry .fits .level .fits)) (image-memo _ _ _)
+    called-kept 20 _ _ _ (not-false _ (at-if1 .if1 .left)) (image-memo _ _ _)
     (node-reduces (after-has-image-tests .has-image-tests .ensures j) (after-found2 .found2 .given .1))
     (called (not-false _ (at-if1 .if1 .left)) (image-opened _ _ _ (at-if2 .if2 .left) (after-get .get .ensures) (after-get2 .get2 .ensures))
     (or-no (after-has-image .has-image .ensures j) (at-if3 .if3 .left)
@@ -175,8 +172,7 @@ pub +has-image-spec : {M : Type 1} → statement M
     let after-found2 = at-if2 .before .before in
     let after-has-image-tests = after-found2 .before .before in
     let at-if1 = after-has-image-tests .before .before in
-    let entry = at-if1 .before .before .before .before .before in
-    called-kept 20 _ _ _ (not-false _ (at-if1 .if1 .left)) (omega (arith, entry .fits .level .fits)) (image-memo _ _ _)
+    called-kept 20 _ _ _ (not-false _ (at-if1 .if1 .left)) (image-memo _ _ _)
     (node-reduces (after-has-image-tests .has-image-tests .ensures j) (after-found2 .found2 .given .1))
     (called (not-false _ (at-if1 .if1 .left)) (image-opened _ _ _ (at-if2 .if2 .left) (after-get .get .ensures) (after-get2 .get2 .ensures))
     (or-no (after-has-image .has-image .ensures j) (at-if3 .if3 .left)

@@ -90,8 +90,7 @@ pub +has-path-spec : {M : Type 1} → statement M
     let after-enum-told3 = at-if2 .before in
     let after-has-path-tests = after-enum-told3 .before .before in
     let at-if1 = after-has-path-tests .before .before in
-    let entry = at-if1 .before .before .before .before .before in
-    path-returns _ _ _ _ (not-false _ (at-if1 .if1 .left)) (omega (arith, entry .fits .level .fits))
+    path-returns _ _ _ _ (not-false _ (at-if1 .if1 .left))
     (node-left (after-has-path-tests .has-path-tests .ensures j) (after-enum-told3 .enum-told3 .given .1))
     (path-opened _ _ _ _ (at-if2 .if2 .left) (after-get .get .ensures) (after-get2 .get2 .ensures) (after-get3 .get3 .ensures))
     (or-yes (after-has-path .has-path .ensures j) (at-if3 .if3 .taken)) (c .before .before .keep-path .ensures))
@@ -116,8 +115,7 @@ pub +has-path-spec : {M : Type 1} → statement M
     let after-enum-told3 = at-if2 .before in
     let after-has-path-tests = after-enum-told3 .before .before in
     let at-if1 = after-has-path-tests .before .before in
-    let entry = at-if1 .before .before .before .before .before in
-    path-returns _ _ _ _ (not-false _ (at-if1 .if1 .left)) (omega (arith, entry .fits .level .fits))
+    path-returns _ _ _ _ (not-false _ (at-if1 .if1 .left))
     (node-left (after-has-path-tests .has-path-tests .ensures j) (after-enum-told3 .enum-told3 .given .1))
     (path-opened _ _ _ _ (at-if2 .if2 .left) (after-get .get .ensures) (after-get2 .get2 .ensures) (after-get3 .get3 .ensures))
     (or-no (after-has-path .has-path .ensures j) (at-if3 .if3 .left) (or-yes (after-has-path2 .has-path2 .ensures j) (at-if4 .if4 .taken)))
@@ -147,8 +145,7 @@ pub +has-path-spec : {M : Type 1} → statement M
     let after-enum-told3 = at-if2 .before in
     let after-has-path-tests = after-enum-told3 .before .before in
     let at-if1 = after-has-path-tests .before .before in
-    let entry = at-if1 .before .before .before .before .before in
-    path-returns _ _ _ _ (not-false _ (at-if1 .if1 .left)) (omega (arith, entry .fits .level .fits))
+    path-returns _ _ _ _ (not-false _ (at-if1 .if1 .left))
     (node-left (after-has-path-tests .has-path-tests .ensures j) (after-enum-told3 .enum-told3 .given .1))
     (path-opened _ _ _ _ (at-if2 .if2 .left) (after-get .get .ensures) (after-get2 .get2 .ensures) (after-get3 .get3 .ensures))
     (or-no (after-has-path .has-path .ensures j) (at-if3 .if3 .left)
@@ -201,8 +198,7 @@ pub +has-path-spec : {M : Type 1} → statement M
     let after-enum-told3 = at-if2 .before in
     let after-has-path-tests = after-enum-told3 .before .before in
     let at-if1 = after-has-path-tests .before .before in
-    let entry = at-if1 .before .before .before .before .before in
-    path-returns _ _ _ _ (not-false _ (at-if1 .if1 .left)) (omega (arith, entry .fits .level .fits))
+    path-returns _ _ _ _ (not-false _ (at-if1 .if1 .left))
     (node-left (after-has-path-tests .has-path-tests .ensures j) (after-enum-told3 .enum-told3 .given .1))
     (path-opened _ _ _ _ (at-if2 .if2 .left) (after-get .get .ensures) (after-get2 .get2 .ensures) (after-get3 .get3 .ensures))
     (or-no (after-has-path .has-path .ensures j) (at-if3 .if3 .left)

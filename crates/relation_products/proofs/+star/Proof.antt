@@ -150,8 +150,7 @@ pub +star-spec : {M : Type 1} → statement M
     let after-found2 = at-if2 .before .before in
     let after-star-tests = after-found2 .before .before in
     let at-if1 = after-star-tests .before .before .before in
-    let entry = at-if1 .before .before .before .before in
-    star-returns _ _ _ (not-false _ (at-if1 .if1 .left)) (omega (arith, entry .fits .level .fits)) (at-if2 .if2 .left)
+    star-returns _ _ _ (not-false _ (at-if1 .if1 .left)) (at-if2 .if2 .left)
     (node-left (after-star-tests .star-tests .ensures) (after-found2 .found2 .given .1)) (after-get .get .ensures) (after-star .star .ensures)
     (after-sequence .sequence .ensures) (after-sequence2 .sequence2 .ensures)
     (after-union .union .ensures) (after-star2 .star2 .ensures) (after-star-node .star-node .ensures) (c .before .before .remember .ensures)))

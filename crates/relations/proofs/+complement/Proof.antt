@@ -136,8 +136,7 @@ unfolding complement-program
     let at-if3 = after-get .before .before in
     let at-if2 = at-if3 .before .before .before .before .before in
     let at-if1 = at-if2 .before in
-    let entry = at-if1 .before .before .before .before in
-    four-returns 8 _ _ _ (not-false _ (at-if1 .if1 .left)) (omega (arith, entry .fits .level .fits)) (complement-memo _ _ _)
+    four-returns 8 _ _ _ (not-false _ (at-if1 .if1 .left)) (complement-memo _ _ _)
     (no (by begin (complement-is _ _)) (less-says (le-ltb _ 2 (at-if2 .if2 .left)))) (opened1 _ _ _ _ (at-if3 .if3 .left) (after-get .get .ensures))
     (after-complement .complement .ensures) (after-complement2 .complement2 .ensures) (after-complement3 .complement3 .ensures)
     (after-complement4 .complement4 .ensures) (after-mk .mk .ensures) (c .before .before .remember .ensures)))

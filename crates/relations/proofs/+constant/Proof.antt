@@ -79,7 +79,6 @@ pub +constant-spec : {M : Type 1} → statement M
     let after-constant = after-mk .before .before .before .before .before .before .before in
     let at-if2 = after-constant .before .before .before .before .before .before .before in
     let at-if1 = at-if2 .before in
-    let entry = at-if1 .before .before .before .before in
-    called-kept 21 _ _ _ (not-false _ (at-if1 .if1 .left)) (omega (arith, entry .fits .level .fits)) (constant-memo _ _ _) begin
+    called-kept 21 _ _ _ (not-false _ (at-if1 .if1 .left)) (constant-memo _ _ _) begin
     (performs-by (constant-step rel _ _ (at-if2 .if2 .left)) (performs-then (after-constant .constant .ensures) (after-mk .mk .ensures)))
     (c .before .before .remember .ensures)))

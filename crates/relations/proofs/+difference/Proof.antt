@@ -165,8 +165,7 @@ unfolding difference-program
     let after-difference-tests = after-found3 .before .before in
     let at-if2 = after-difference-tests .before .before .before in
     let at-if1 = at-if2 .before in
-    let entry = at-if1 .before .before .before .before in
-    four-returns 7 _ _ _ (not-false _ (at-if1 .if1 .left)) (omega (arith, entry .fits .level .fits)) (difference-memo _ _ _)
+    four-returns 7 _ _ _ (not-false _ (at-if1 .if1 .left)) (difference-memo _ _ _)
     (further (differ (difference-is _ _ _) (at-if2 .if2 .left))
     (node-left (after-difference-tests .difference-tests .ensures) (after-found3 .found3 .given .1)))
     (opened2 _ _ _ _ _ (at-if3 .if3 .left) (after-get .get .ensures) (after-get2 .get2 .ensures)) (after-difference .difference .ensures)

@@ -134,8 +134,7 @@ unfolding flip-program
     let at-if3 = after-get .before .before in
     let at-if2 = at-if3 .before .before .before .before .before in
     let at-if1 = at-if2 .before in
-    let entry = at-if1 .before .before .before .before in
-    four-returns 11 _ _ _ (not-false _ (at-if1 .if1 .left)) (omega (arith, entry .fits .level .fits)) (flip-memo _ _ _)
+    four-returns 11 _ _ _ (not-false _ (at-if1 .if1 .left)) (flip-memo _ _ _)
     (no (by begin (flip-is _ _)) (less-says (le-ltb _ 2 (at-if2 .if2 .left)))) (opened1 _ _ _ _ (at-if3 .if3 .left) (after-get .get .ensures))
     (after-flip .flip .ensures)
     (after-flip2 .flip2 .ensures) (after-flip3 .flip3 .ensures) (after-flip4 .flip4 .ensures) (after-mk .mk .ensures) (c .before .before .remember .ensures)))

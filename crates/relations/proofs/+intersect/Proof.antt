@@ -172,8 +172,7 @@ unfolding intersect-program
     let after-relation-properties = at-if3 .before in
     let at-if2 = after-relation-properties .before .before .before in
     let at-if1 = at-if2 .before in
-    let entry = at-if1 .before .before .before .before in
-    four-returns 5 _ _ _ (not-false _ (at-if1 .if1 .left)) (omega (arith, entry .fits .level .fits)) (intersect-memo _ _ _)
+    four-returns 5 _ _ _ (not-false _ (at-if1 .if1 .left)) (intersect-memo _ _ _)
     (further (no (differ (intersect-is _ _ _) (at-if2 .if2 .left)) (empty-says (after-relation-properties .relation-properties .ensures) (at-if3 .if3 .left)))
     (node-reduces (after-lattice-tests .lattice-tests .ensures (node2 intersect-op _) _ (intersect-memo _)
     (after-relation-properties .relation-properties .ensures)

@@ -85,8 +85,7 @@ pub +one-at-depth-spec : {M : Type 1} → statement M
     let after-one-at-depth = after-zero-at-depth .before .before .before .before .before .before .before in
     let at-if2 = after-one-at-depth .before .before .before .before .before .before .before in
     let at-if1 = at-if2 .before in
-    let entry = at-if1 .before .before .before .before in
-    called-kept 22 _ 0 0 (not-false _ (at-if1 .if1 .left)) (omega (arith, entry .fits .level .fits)) (identity-memo _ _ _) begin
+    called-kept 22 _ 0 0 (not-false _ (at-if1 .if1 .left)) (identity-memo _ _ _) begin
     (performs-by (identity-step _ (at-if2 .if2 .left))
     (performs-then (after-one-at-depth .one-at-depth .ensures) (performs-then (after-zero-at-depth .zero-at-depth .ensures) (after-mk .mk .ensures))))
     (c .before .before .remember .ensures)))

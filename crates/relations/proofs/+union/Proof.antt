@@ -182,8 +182,7 @@ unfolding union-program
     let at-if2 = after-relation-properties .before .before .before in
     let at-if1 = at-if2 .before in
     let after-with-handle = at-if1 .before .before in
-    let entry = after-with-handle .before .before .before in
-    copied (after-with-handle .with-handle .ensures) (four-returns 4 _ _ _ (not-false _ (at-if1 .if1 .left)) (omega (arith, entry .fits .level .fits))
+    copied (after-with-handle .with-handle .ensures) (four-returns 4 _ _ _ (not-false _ (at-if1 .if1 .left))
     (union-memo _ _ _)
     (further (no (differ (union-is _ _ _) (at-if2 .if2 .left)) (empty-says (after-relation-properties .relation-properties .ensures) (at-if3 .if3 .left)))
     (node-reduces (after-lattice-tests .lattice-tests .ensures (node2 (union-op rel) _) _ (union-memo _)

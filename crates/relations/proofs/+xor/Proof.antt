@@ -165,8 +165,7 @@ unfolding xor-program
     let after-xor-tests = after-found3 .before .before in
     let at-if2 = after-xor-tests .before .before .before in
     let at-if1 = at-if2 .before in
-    let entry = at-if1 .before .before .before .before in
-    four-returns 6 _ _ _ (not-false _ (at-if1 .if1 .left)) (omega (arith, entry .fits .level .fits)) (xor-memo _ _ _)
+    four-returns 6 _ _ _ (not-false _ (at-if1 .if1 .left)) (xor-memo _ _ _)
     (further (differ (xor-is _ _ _) (at-if2 .if2 .left)) (node-left (after-xor-tests .xor-tests .ensures) (after-found3 .found3 .given .1)))
     (opened2 _ _ _ _ _ (at-if3 .if3 .left) (after-get .get .ensures) (after-get2 .get2 .ensures)) (after-xor .xor .ensures) (after-xor2 .xor2 .ensures)
     (after-xor3 .xor3 .ensures) (after-xor4 .xor4 .ensures) (after-mk .mk .ensures) (c .before .before .remember .ensures)))

@@ -78,8 +78,7 @@ pub +intersects-spec : {M : Type 1} → statement M
     let after-found2 = at-if2 .before .before in
     let after-intersects-tests = after-found2 .before .before in
     let at-if1 = after-intersects-tests .before .before in
-    let entry = at-if1 .before .before .before .before in
-    meet-returns _ _ _ (not-false _ (at-if1 .if1 .left)) (omega (arith, entry .fits .level .fits)) (at-if2 .if2 .left)
+    meet-returns _ _ _ (not-false _ (at-if1 .if1 .left)) (at-if2 .if2 .left)
     (further (by begin (intersects-is _ _ _)) (node-reduces (after-intersects-tests .intersects-tests .ensures) (after-found2 .found2 .given .1)))
     (after-get .get .ensures)
     (after-get2 .get2 .ensures) (after-intersects .intersects .ensures)
@@ -107,8 +106,7 @@ pub +intersects-spec : {M : Type 1} → statement M
     let after-found2 = at-if2 .before .before in
     let after-intersects-tests = after-found2 .before .before in
     let at-if1 = after-intersects-tests .before .before in
-    let entry = at-if1 .before .before .before .before in
-    meet-returns _ _ _ (not-false _ (at-if1 .if1 .left)) (omega (arith, entry .fits .level .fits)) (at-if2 .if2 .left)
+    meet-returns _ _ _ (not-false _ (at-if1 .if1 .left)) (at-if2 .if2 .left)
     (further (by begin (intersects-is _ _ _)) (node-reduces (after-intersects-tests .intersects-tests .ensures) (after-found2 .found2 .given .1)))
     (after-get .get .ensures)
     (after-get2 .get2 .ensures) (after-intersects .intersects .ensures)

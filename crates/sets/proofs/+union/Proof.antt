@@ -127,8 +127,7 @@ unfolding union-program
     let after-other = at-if3 .before in
     let at-if2 = after-other .before in
     let at-if1 = at-if2 .before in
-    let entry = at-if1 .before .before .before .before in
-    pair-returns (union-op set .short) 1 _ _ _ (not-false _ (at-if1 .if1 .left)) (omega (arith, entry .fits .level .fits)) (at-if4 .if4 .left)
+    pair-returns (union-op set .short) 1 _ _ _ (not-false _ (at-if1 .if1 .left)) (at-if4 .if4 .left)
     (union-memo _ _ _) (further (union-tested _ _ _ _ (at-if2 .if2 .left) (after-other .other .ensures) (at-if3 .if3 .left))
     (node-reduces (after-union-tests .union-tests .ensures) (after-found2 .found2 .given .1))) (after-get .get .ensures) (after-get2 .get2 .ensures)
     (after-union .union .ensures) (after-union2 .union2 .ensures)

@@ -111,8 +111,7 @@ unfolding xor-program
     let after-xor-tests = after-found2 .before .before in
     let at-if2 = after-xor-tests .before .before .before in
     let at-if1 = at-if2 .before in
-    let entry = at-if1 .before .before .before .before in
-    pair-returns (xor-op set .short) 2 _ _ _ (not-false _ (at-if1 .if1 .left)) (omega (arith, entry .fits .level .fits)) (at-if3 .if3 .left) (xor-memo _ _ _)
+    pair-returns (xor-op set .short) 2 _ _ _ (not-false _ (at-if1 .if1 .left)) (at-if3 .if3 .left) (xor-memo _ _ _)
     (further (xor-tested _ _ _ (at-if2 .if2 .left)) (node-reduces (after-xor-tests .xor-tests .ensures) (after-found2 .found2 .given .1)))
     (after-get .get .ensures) (after-get2 .get2 .ensures)
     (after-xor .xor .ensures) (after-xor2 .xor2 .ensures) (after-mk .mk .ensures) (c .before .before .remember .ensures)))

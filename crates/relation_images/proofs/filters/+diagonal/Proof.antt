@@ -117,8 +117,7 @@ unfolding diagonal-program
     let at-if3 = after-get .before in
     let at-if2 = at-if3 .before .before .before .before .before in
     let at-if1 = at-if2 .before in
-    let entry = at-if1 .before .before .before .before .before in
-    two-returns 17 _ _ _ (not-false _ (at-if1 .if1 .left)) (omega (arith, entry .fits .level .fits)) (diagonal-memo _ _)
+    two-returns 17 _ _ _ (not-false _ (at-if1 .if1 .left)) (diagonal-memo _ _)
     (no (by begin (diagonal-is _ _)) (less-says (le-ltb _ 2 (at-if2 .if2 .left)))) (opened _ _ _ _ (at-if3 .if3 .left) (after-get .get .ensures))
     (after-diagonal .diagonal .ensures j) (after-diagonal2 .diagonal2 .ensures j)
     (performs-on (performs-then (after-zero-at-depth .zero-at-depth .ensures) (after-mk .mk .ensures))) (c .before .before .remember .ensures)))

@@ -95,7 +95,6 @@ unfolding ifwd-program
     let at-if3 = after-get .before in
     let at-if2 = at-if3 .before .before .before .before .before in
     let at-if1 = at-if2 .before in
-    let entry = at-if1 .before .before .before .before .before in
-    two-returns 16 _ _ _ (not-false _ (at-if1 .if1 .left)) (omega (arith, entry .fits .level .fits)) (ifwd-memo _ _)
+    two-returns 16 _ _ _ (not-false _ (at-if1 .if1 .left)) (ifwd-memo _ _)
     (no (by begin (ifwd-is _ _)) (less-says (le-ltb _ 2 (at-if2 .if2 .left)))) (opened _ _ _ _ (at-if3 .if3 .left) (after-get .get .ensures))
     (after-ifwd .ifwd .ensures j) (after-ifwd2 .ifwd2 .ensures j) (performs-on (after-mk .mk .ensures)) (c .before .before .remember .ensures)))

@@ -175,8 +175,7 @@ pub +pull-spec : {M : Type 1} → statement M
     let after-enum-told4 = at-if2 .before in
     let after-image-tests = after-enum-told4 .before .before in
     let at-if1 = after-image-tests .before .before .before in
-    let entry = at-if1 .before .before .before .before .before in
-    four-returns 19 _ _ _ (not-false _ (at-if1 .if1 .left)) (omega (arith, entry .fits .level .fits)) (pull-memo _ _ _)
+    four-returns 19 _ _ _ (not-false _ (at-if1 .if1 .left)) (pull-memo _ _ _)
     (node-left (tested (pull-is _ _ _) (after-image-tests .image-tests .ensures j _ _ (pull-memo _ _ _))) (after-enum-told4 .enum-told4 .given .1))
     (pull-opened _ _ _ (at-if2 .if2 .left) (after-get2 .get2 .ensures) (after-get .get .ensures)) (after-pull .pull .ensures j) (after-pull2 .pull2 .ensures j)
     (after-pull3 .pull3 .ensures j) (after-pull4 .pull4 .ensures j) (performs-on (after-two-unions .two-unions .ensures))

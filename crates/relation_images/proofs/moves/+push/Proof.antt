@@ -175,8 +175,7 @@ pub +push-spec : {M : Type 1} → statement M
     let after-enum-told4 = at-if2 .before in
     let after-image-tests = after-enum-told4 .before .before in
     let at-if1 = after-image-tests .before .before .before in
-    let entry = at-if1 .before .before .before .before .before in
-    four-returns 18 _ _ _ (not-false _ (at-if1 .if1 .left)) (omega (arith, entry .fits .level .fits)) (push-memo _ _ _)
+    four-returns 18 _ _ _ (not-false _ (at-if1 .if1 .left)) (push-memo _ _ _)
     (node-left (tested (push-is _ _ _) (after-image-tests .image-tests .ensures j _ _ (push-memo _ _ _))) (after-enum-told4 .enum-told4 .given .1))
     (push-opened _ _ _ (at-if2 .if2 .left) (after-get .get .ensures) (after-get2 .get2 .ensures)) (after-push .push .ensures j) (after-push2 .push2 .ensures j)
     (after-push3 .push3 .ensures j) (after-push4 .push4 .ensures j) (performs-on (after-two-unions .two-unions .ensures))

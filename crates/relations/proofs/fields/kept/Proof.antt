@@ -44,7 +44,7 @@ kept-spec =
     let after-memo-number = after-bit .before in
     let at-if1 = after-memo-number .before in
     let entry = at-if1 .before .before .before .before in
-    called-kept _ _ _ _ (not-false _ (at-if1 .if1 .left)) (omega (arith, entry .fits .k .fits))
+    called-kept _ _ _ _ (not-false _ (at-if1 .if1 .left))
     (fields-memo (entry .args .assigns) _ _ _ _ _ (after-memo-number .memo-number .ensures .0) (after-bit .bit .ensures)) begin
     (performs-from-identity _ _ _ _ (after-held-identity .held-identity .ensures) (at-if3 .if3 .taken) (at-if2 .if2 .taken)
     (after-from-identity .from-identity .ensures)) (c .before .before .remember .ensures))
@@ -58,6 +58,6 @@ kept-spec =
     let after-memo-number = after-bit .before in
     let at-if1 = after-memo-number .before in
     let entry = at-if1 .before .before .before .before in
-    called-kept _ _ _ _ (not-false _ (at-if1 .if1 .left)) (omega (arith, entry .fits .k .fits))
+    called-kept _ _ _ _ (not-false _ (at-if1 .if1 .left))
     (fields-memo (entry .args .assigns) _ _ _ _ _ (after-memo-number .memo-number .ensures .0) (after-bit .bit .ensures)) begin (after-fields .fields .ensures)
     (c .before .before .remember2 .ensures)))

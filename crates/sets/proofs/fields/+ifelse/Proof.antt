@@ -76,7 +76,7 @@ pub +ifelse-spec : {M : Type 1} → statement M
     let at-if2 = after-get .before .before .before .before .before .before in
     let at-if1 = at-if2 .before in
     let entry = at-if1 .before .before .before .before in
-    here-returns _ _ _ _ (omega (arith, entry .fits .level .fits)) (omega (arith, entry .fits .var .fits)) (not-false _ (at-if1 .if1 .left)) (at-if2 .if2 .left)
+    here-returns _ _ _ _ (omega (arith, entry .fits .var .fits)) (not-false _ (at-if1 .if1 .left)) (at-if2 .if2 .left)
     (at-if3 .if3 .taken) (after-get .get .ensures) (after-get2 .get2 .ensures) (after-mk .mk .ensures) (c .before .before .remember .ensures))
     (λ c. search needs)
     (λ c. search needs)
@@ -109,7 +109,7 @@ pub +ifelse-spec : {M : Type 1} → statement M
     let at-if2 = after-get .before .before .before .before .before .before in
     let at-if1 = at-if2 .before in
     let entry = at-if1 .before .before .before .before in
-    below-returns _ _ _ _ (omega (arith, entry .fits .level .fits)) (omega (arith, entry .fits .var .fits)) (not-false _ (at-if1 .if1 .left))
+    below-returns _ _ _ _ (omega (arith, entry .fits .var .fits)) (not-false _ (at-if1 .if1 .left))
     (at-if2 .if2 .left)
     (at-if3 .if3 .left) (after-get .get .ensures) (after-get2 .get2 .ensures) (after-ifelse .ifelse .ensures) (after-ifelse2 .ifelse2 .ensures)
     (after-mk2 .mk2 .ensures) (c .before .before .remember2 .ensures)))
