@@ -1,13 +1,14 @@
--- `new` on empty lists leaves a well-formed store of 3k relations and k sets, and gives the full relation.
-use mathlib.Core.Path.{_≡_, refl, ap, _∙_}
+-- `new` on empty lists leaves a well-formed store, of the nodes that `specs/NewNodes` writes out, 3k relations and k sets, and gives the full relation.
+use mathlib.Core.Path.{_≡_, refl, sym, ap, _∙_, subst}
 use mathlib.Core.Logic.{inl, inr}
-use mathlib.Core.List.{List, [], _∷_, _++_}
-use Prim.Native.Nat.{ℕ, zero, suc, _+_, _-_, _*_, _%_, _<_, _≤_}
+use mathlib.Core.List.{List, [], _∷_, _++_, append-assoc, append-nil}
+use Prim.Native.Nat.{ℕ, zero, suc, _+_, _*_, _%_, _<_, _≤_}
 use native.Mathlib.Omega.{arith}
 use native.Mathlib.Decide.{decLt}
 use lib.ListN.{length, getD, replicate, length-append, getD-replicate}
 use Rattle.model.specs.Images.{blank, new}
 use Rattle.model.specs.Meaning.{Relates}
+use Rattle.model.specs.NewNodes.{levels, level-handle, level-node, new-sets, new-relations}
 use Rattle.model.specs.Operations.{constant, zero-at-depth, top-at-depth, identity-at-depth, one-at-depth}
 use Rattle.model.specs.Programs.{ret, mk, _>>=_, Ran, ran, run}
 use Rattle.model.specs.Safety.{Safe, Settled}
@@ -38,7 +39,7 @@ new-does k =
     bind-does (identity-does k (omega arith) F₃) λ S₄ b E₄ F₄ D.
     top-relates k (omega arith) F₄ (λ p q P Q. tt)
 
--- COUNTS. No node of S has v as its child d
+-- NODES. No node of S has v as its child d
 record Absent (K : Kind) (d v : ℕ) (S : Store) : Type 0 where
   nowhere : (i : ℕ) → i < length (nodes K S) → ¬ (getD (getD (nodes K S) i []) d 0 ≡ v)
 
@@ -64,12 +65,12 @@ appended : (x : List ℕ) (N : Nodes) → ((i : ℕ) → i < length N → ¬ (ge
 appended x N n = let h = had x N in
     elim (h .new) [ inl q ↦ absurd (n (place x N) (rw q at (h .inside)) (rw q at (h .found))) | inr q ↦ (q .0, q .1) ]
 
--- R has l more nodes of kind K than S, and no other; its value is no child d yet and, for l > 0, the newest handle
-record Grew (K : Kind) (d : ℕ) (S : Store) (l : ℕ) (R : Ran) : Type 0 where
-  here : length (nodes K (R .store)) ≡ l + length (nodes K S)
+-- R has the nodes N of kind K more than S, and no other; its value is v, which is no child d yet
+record Grew (K : Kind) (d : ℕ) (S : Store) (N : Nodes) (v : ℕ) (R : Ran) : Type 0 where
+  here : nodes K (R .store) ≡ nodes K S ++ N
   there : with-nodes K [] (R .store) ≡ with-nodes K [] S
-  last : 0 < l → R .value ≡ handle-of K 0 (l + length (nodes K S) - 1)
-  fresh : Absent K d (R .value) (R .store)
+  value : R .value ≡ v
+  fresh : Absent K d v (R .store)
 
 -- an even node is stored as it is, its handle has no sign, and the other kind stays
 mk-even : (K : Kind) (x : List ℕ) (S : Store) → Even K x
@@ -79,20 +80,32 @@ mk-even set x S e = (rw e (with-sign-zero x), λ i. rw e, refl)
 mk-even rel x S e = (refl, λ i. refl, refl)
 
 -- so a node whose child d is the last value is one more
-mk-grew : {k d l : ℕ} {S : Store} {R : Ran} (K : Kind) (x : List ℕ) → d < arity K → Even K x → getD x d 0 ≡ R .value → Grew K d S l R
-    → WellFormed k (run (mk K x) (R .store) .store) → Grew K d S (suc l) (run (mk K x) (R .store))
+mk-grew : {k d v : ℕ} {S : Store} {N : Nodes} {R : Ran} (K : Kind) (x : List ℕ) (i : ℕ) → d < arity K → Even K x → getD x d 0 ≡ v → Grew K d S N v R
+    → length (nodes K S ++ N) ≡ i → WellFormed k (run (mk K x) (R .store) .store)
+    → Grew K d S (N ++ (x ∷ [])) (handle-of K 0 i) (run (mk K x) (R .store))
 unfolding run mk-handle
-mk-grew {d = d} {l = l} {S = S} {R = R} K x b e c G F =
+mk-grew {d = d} {S = S} {N = N} {R = R} K x i b e c G l F =
     let u = mk-even K x (R .store) e in
     let a = appended x (nodes K (R .store)) (λ i h q. G .fresh .nowhere i h (ap (λ y. getD y d 0) q ∙ c)) in
-    let h : length (nodes K (mk-store K x (R .store))) ≡ suc (l + length (nodes K S))
-    = rw (mk-nodes K x (R .store), u .0, a .0, length-append) (omega (arith, G .here)) in
-    let v : mk-handle K x (R .store) ≡ handle-of K 0 (l + length (nodes K S)) = rw (u .1, u .0, a .1, G .here) refl in record {
-      here = omega arith;
+    let m : nodes K (mk-store K x (R .store)) ≡ nodes K S ++ (N ++ (x ∷ []))
+    = rw (mk-nodes K x (R .store), u .0, a .0, G .here) (append-assoc (nodes K S) N (x ∷ [])) in
+    let h : length (nodes K (mk-store K x (R .store))) ≡ suc i
+    = ap length m ∙ ap length (sym (append-assoc (nodes K S) N (x ∷ []))) ∙ rw (length-append, l) (omega arith) in
+    record {
+      here = m;
       there = u .2 ∙ G .there;
-      last = λ p. v ∙ ap (handle-of K 0) (omega arith);
-      fresh = rw v (newest K d b F h);
+      value = rw (u .1, u .0, a .1, G .here, l) refl;
+      fresh = newest K d b F h;
     }
+
+-- as many nodes as levels, and alike where the nodes are
+levels-length : (f : ℕ → List ℕ) (k : ℕ) → length (levels f k) ≡ k
+levels-length f zero = refl
+levels-length f (suc k) = rw (length-append, levels-length f k) (omega arith)
+
+levels-agree : (f g : ℕ → List ℕ) (k : ℕ) → ((l : ℕ) → l < k → f l ≡ g l) → levels f k ≡ levels g k
+levels-agree f g zero h = refl
+levels-agree f g (suc k) h = rw (levels-agree f g k (λ l i. h l (omega arith)), h k (omega arith))
 
 -- runs from S and c on, each one node beyond the last
 record Chain (k : ℕ) (K : Kind) (S : Store) (c : ℕ) (node : ℕ → ℕ → List ℕ) (r : ℕ → Ran) : Type 0 where
@@ -101,25 +114,30 @@ record Chain (k : ℕ) (K : Kind) (S : Store) (c : ℕ) (node : ℕ → ℕ → 
   formed : (l : ℕ) → l ≤ k → WellFormed k (r l .store)
 
 module _ {k c : ℕ} {S : Store} {node : ℕ → ℕ → List ℕ} {r : ℕ → Ran} (K : Kind) (C : Chain k K S c node r) where
-  grew : (d : ℕ) → d < arity K → ((l : ℕ) → Even K (node l (r l .value))) → ((l h : ℕ) → getD (node l h) d 0 ≡ h)
-      → Absent K d c S → (l : ℕ) → l ≤ k → Grew K d S l (r l)
-  grew d b e f A zero i = rw (C .start) (record { here = omega arith; there = refl; last = λ p. absurd (omega arith); fresh = A })
-  grew d b e f A (suc l) i =
-      rw (C .next l i) (mk-grew K _ b (e l) (f l _) (grew d b e f A l (omega arith)) (rw (C .next l i) at (C .formed (suc l) i)))
+  grew : (d p : ℕ) → d < arity K → length (nodes K S) ≡ p → ((l : ℕ) → Even K (node l (r l .value))) → ((l h : ℕ) → getD (node l h) d 0 ≡ h)
+      → Absent K d c S → (l : ℕ) → l ≤ k → Grew K d S (levels (λ l. node l (level-handle K p c l)) l) (level-handle K p c l) (r l)
+  grew d p b n e f A zero i = rw (C .start) (record { here = sym (append-nil (nodes K S)); there = refl; value = refl; fresh = A })
+  grew d p b n e f A (suc l) i =
+      let v = level-handle K p c in
+      let G = grew d p b n e f A l (omega arith) in
+      let q : r (suc l) ≡ run (mk K (node l (v l))) (r l .store) = C .next l i ∙ ap (λ h. run (mk K (node l h)) (r l .store)) (G .value) in
+      let m : length (nodes K S ++ levels (λ l. node l (v l)) l) ≡ p + l = rw (length-append, n, levels-length) in
+      rw q (mk-grew K (node l (v l)) (p + l) b (subst (λ h. Even K (node l h)) (G .value) (e l)) (f l (v l)) G m (rw q at (C .formed (suc l) i)))
 
-  keeps : (d v : ℕ) → ((l : ℕ) → ¬ (getD (stored K (node l (r l .value))) d 0 ≡ v)) → Absent K d v S → (l : ℕ) → l ≤ k → Absent K d v (r l .store)
+  keeps : (d v : ℕ) → ((l : ℕ) → l < k → ¬ (getD (stored K (node l (r l .value))) d 0 ≡ v)) → Absent K d v S → (l : ℕ) → l ≤ k → Absent K d v (r l .store)
   unfolding run
   keeps d v n A zero i = rw (C .start) A
-  keeps d v n A (suc l) i = rw (C .next l i) (mk-absent K _ (keeps d v n A l (omega arith)) (n l))
+  keeps d v n A (suc l) i = rw (C .next l i) (mk-absent K _ (keeps d v n A l (omega arith)) (n l i))
 
 module _ {k : ℕ} {S : Store} (K : Kind) (F : WellFormed k S) where
   constant-chain : (c : ℕ) → c < 2 → Chain k K S c (λ l h. replicate (arity K) h) (λ l. run (constant K c l) S)
   unfolding constant run
   constant-chain c b = record { start = refl; next = λ l i. refl; formed = λ l i. constant-does K c l b i F .after .formed }
 
-  constant-grew : (c d : ℕ) → c < 2 → d < arity K → ((l : ℕ) → Even K (replicate (arity K) (run (constant K c l) S .value))) → Absent K d c S
-      → Grew K d S k (run (constant K c k) S)
-  constant-grew c d a b e A = grew K (constant-chain c a) d b e (λ l h. getD-replicate (arity K) d h 0 b) A k (omega arith)
+  constant-grew : (c d p : ℕ) → c < 2 → d < arity K → length (nodes K S) ≡ p → ((l : ℕ) → Even K (replicate (arity K) (run (constant K c l) S .value)))
+      → Absent K d c S → (l : ℕ) → l ≤ k
+      → Grew K d S (levels (λ l. replicate (arity K) (level-handle K p c l)) l) (level-handle K p c l) (run (constant K c l) S)
+  constant-grew c d p a b n e A = grew K (constant-chain c a) d p b n e (λ l h. getD-replicate (arity K) d h 0 b) A
 
   -- the zeros that a run left are there for every later run
   zeros-settled : (l m : ℕ) → l ≤ m → m ≤ k → Settled (constant K 0 l) (run (constant K 0 m) S .store) (run (constant K 0 l) S .value)
@@ -152,47 +170,72 @@ identity-chain {S = S} z F H = record {
   formed = λ l i. identity-does l i F .after .formed;
 }
 
-zero-not-one : (l : ℕ) (S : Store) → ¬ (run (constant rel 0 l) S .value ≡ 1)
-unfolding constant run mk-handle
-zero-not-one zero S e = omega arith
-zero-not-one (suc l) S e = omega arith
-
--- 3k relations, m sets and, for k > 0, the newest relation's handle
-abbrev Leaves : ℕ → ℕ → Ran → Type 0
-Leaves k m R = (length (R .store .rels) ≡ 3 * k) × (length (R .store .sets) ≡ m) × (0 < k → R .value ≡ 3 * k + 1)
+zero-not-one : (l : ℕ) → ¬ (level-handle rel 0 0 l ≡ 1)
+zero-not-one zero e = omega arith
+zero-not-one (suc l) e = omega arith
 
 -- zeros, identities and full relations: none of the first has a child 1, none of the second has it as x01
-rels-leave : {k m : ℕ} {S : Store} → WellFormed k S → length (S .rels) ≡ 0 → length (S .sets) ≡ m
-    → Leaves k m (run (zero-at-depth rel k >>= λ z. one-at-depth rel k >>= λ o. top-at-depth k) S)
+relations-are : {k : ℕ} {S : Store} → WellFormed k S → S .rels ≡ []
+    → run (zero-at-depth rel k >>= λ z. one-at-depth rel k >>= λ o. top-at-depth k) S
+    ≡ ran (record { sets = S .sets; rels = new-relations k }) (level-handle rel (2 * k) 1 k)
 unfolding run
-rels-leave {k} {m} {S} F n s =
-    let z : ℕ → ℕ = λ l. run (constant rel 0 l) S .value in
+relations-are {k} {S} F n =
+    let none : (d v : ℕ) → Absent rel d v S = λ d v. none-absent rel d v S (ap length n) in
     let Z = constant-chain rel F 0 (omega arith) in
-    let I = identity-chain z (Z .formed k (omega arith)) (λ l i. zeros-settled rel F l k i (omega arith)) in
+    let G₁ = constant-grew rel F 0 0 0 (omega arith) (omega arith) (ap length n) (λ l. tt) (none 0 0) in
+    let I = identity-chain (level-handle rel 0 0) (Z .formed k (omega arith))
+    (λ l i. subst (Settled (zero-at-depth rel l) _) (G₁ l i .value) (zeros-settled rel F l k i (omega arith))) in
     let A : (d : ℕ) → d < 4 → Absent rel d 1 (run (constant rel 0 k) S .store)
-    = λ d b. keeps rel Z d 1 (λ l. rw (getD-replicate 4 d (z l) 0 b) (zero-not-one l S)) (none-absent rel d 1 S n) k (omega arith) in
-    let B = keeps rel I 1 1 (λ l. zero-not-one l S) (A 1 (omega arith)) k (omega arith) in
-    let G₁ = constant-grew rel F 0 0 (omega arith) (omega arith) (λ l. tt) (none-absent rel 0 0 S n) in
-    let G₂ = grew rel I 0 (omega arith) (λ l. tt) (λ l h. refl) (A 0 (omega arith)) k (omega arith) in
-    let G₃ = constant-grew rel (I .formed k (omega arith)) 1 1 (omega arith) (omega arith) (λ l. tt) B in (
-      omega (arith, G₁ .here, G₂ .here, G₃ .here),
-      omega (arith, ap (λ U. length (U .sets)) (G₁ .there), ap (λ U. length (U .sets)) (G₂ .there), ap (λ U. length (U .sets)) (G₃ .there)),
-      λ p. G₃ .last p ∙ omega (arith, G₁ .here, G₂ .here),
-    )
+    = λ d b. keeps rel Z d 1 (λ l i. rw (getD-replicate 4 d (run (constant rel 0 l) S .value) 0 b, G₁ l (omega arith) .value) (zero-not-one l)) (none d 1) k
+    (omega arith) in
+    let B = keeps rel I 1 1 (λ l i. zero-not-one l) (A 1 (omega arith)) k (omega arith) in
+    let h₁ : run (constant rel 0 k) S .store .rels ≡ levels (level-node 0 0 0 0) k
+    = G₁ k (omega arith) .here ∙ ap (λ N. N ++ levels (level-node 0 0 0 0) k) n in
+    let G₂ = grew rel I 0 k (omega arith) (ap length h₁ ∙ levels-length (level-node 0 0 0 0) k) (λ l. tt) (λ l h. refl) (A 0 (omega arith)) k (omega arith) in
+    let h₂ = G₂ .here ∙ ap (λ N. N ++ levels (level-node k 1 0 0) k) h₁ in
+    let two = ap length h₂ ∙ length-append (levels (level-node 0 0 0 0) k) _ in
+    let G₃ = constant-grew rel (I .formed k (omega arith)) 1 1 (2 * k) (omega arith) (omega arith)
+    (two ∙ omega (arith, levels-length (level-node 0 0 0 0) k, levels-length (level-node k 1 0 0) k)) (λ l. tt) B k (omega arith) in
+    let rels = G₃ .here ∙ ap (λ N. N ++ levels (level-node (2 * k) 1 (2 * k) 1) k) h₂ in
+    let sets = ap (λ U. U .sets) (G₃ .there ∙ G₂ .there ∙ G₁ k (omega arith) .there) in
+    λ i. ran (record { sets = sets i; rels = rels i }) (G₃ .value i)
 
-new-leaves : (k : ℕ) → Leaves k k (run (new k) blank)
+set-handle : (l : ℕ) → level-handle set 0 0 l ≡ 2 * l
+set-handle zero = omega arith
+set-handle (suc l) = omega arith
+
+-- the store that `new` leaves, node by node, and the handle that it gives
+pub new-is : (k : ℕ) → run (new k) blank ≡ ran (record { sets = new-sets k; rels = new-relations k }) (level-handle rel (2 * k) 1 k)
 unfolding new run
-new-leaves k =
+new-is k =
     let D = constant-does set 0 k (omega arith) (omega arith) (blank-formed k) in
     let S = run (constant set 0 k) blank .store in
-    let G = constant-grew set (blank-formed k) 0 0 (omega arith) (omega arith) (λ l. zero-even l blank) (none-absent set 0 0 blank refl) in
+    let G = constant-grew set (blank-formed k) 0 0 0 (omega arith) (omega arith) refl (λ l. zero-even l blank) (none-absent set 0 0 blank refl)
+    k
+    (omega arith) in
     let e : run (constant set 1 k) S .store ≡ S = ap (λ r. r .store) (ones k S) ∙ ap (λ r. r .store) (settle (constant set 0 k) blank S (D .safe) ext-refl) in
-    rels-leave (constant-does set 1 k (omega arith) (omega arith) (D .after .formed) .after .formed)
-    (ap (λ U. length (U .rels)) (ap (with-nodes set []) e ∙ G .there)) (ap (λ U. length (U .sets)) e ∙ G .here ∙ omega arith)
+    let sets = ap (λ U. U .sets) e ∙ G .here ∙ levels-agree _ _ k (λ l i. ap (λ h. h ∷ h ∷ []) (set-handle l)) in
+    relations-are (constant-does set 1 k (omega arith) (omega arith) (D .after .formed) .after .formed)
+    (ap (λ U. U .rels) (ap (with-nodes set []) e ∙ G .there))
+    ∙ (λ i. ran (record { sets = sets i; rels = new-relations k }) (level-handle rel (2 * k) 1 k))
 
 pub new-counts : (k : ℕ) → (length (run (new k) blank .store .rels) ≡ 3 * k) × (length (run (new k) blank .store .sets) ≡ k)
-new-counts k = (new-leaves k .0, new-leaves k .1)
+new-counts k =
+    let N₁ = levels (level-node 0 0 0 0) k in
+    let N₂ = levels (level-node k 1 0 0) k in
+    let N₃ = levels (level-node (2 * k) 1 (2 * k) 1) k in (
+      ap (λ R. length (R .store .rels)) (new-is k) ∙ omega (
+        arith,
+        length-append (N₁ ++ N₂) N₃,
+        length-append N₁ N₂,
+        levels-length (level-node 0 0 0 0) k,
+        levels-length (level-node k 1 0 0) k,
+        levels-length (level-node (2 * k) 1 (2 * k) 1) k,
+      ),
+      ap (λ R. length (R .store .sets)) (new-is k) ∙ levels-length (λ l. 2 * l ∷ 2 * l ∷ []) k,
+    )
 
 -- the full relation's handle
 pub new-value : (k : ℕ) → 0 < k → run (new k) blank .value ≡ 3 * k + 1
-new-value k = new-leaves k .2
+new-value zero h = absurd (omega arith)
+new-value (suc k) h = ap (λ R. R .value) (new-is (suc k)) ∙ omega arith

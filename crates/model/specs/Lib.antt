@@ -5,6 +5,7 @@ pub mod Operations
 pub mod Relations
 pub mod Sets
 pub mod Images
+pub mod NewNodes
 pub mod Packets
 pub mod FieldOrder
 pub mod WellFormed

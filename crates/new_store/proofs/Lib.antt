@@ -1,3 +1,2 @@
-mod Parts
+pub mod Writing
 pub mod Creating
-pub mod Filling

@@ -1,19 +1,14 @@
 // A new store in two lent memories.
 ghost use mathlib.Core.Path.{_≡_};
-ghost use mathlib.Core.Bool.{true};
-ghost use Prim.Native.Nat.{ℕ, _<_, _≤_};
-ghost use lib.ListN.{length, replicate};
+ghost use Prim.Native.Nat.{_+_, _*_, _<_, _≤_};
+ghost use lib.ListN.{length};
 ghost use Rattle.model.specs.Store.{set, rel};
-ghost use Rattle.memory.specs.Performing.{run-state, Performs};
-ghost use Rattle.store_check.specs.Memory.{memories};
+ghost use Rattle.model.specs.NewNodes.{levels, level-handle, level-node, new-sets, new-relations};
+ghost use Rattle.store_check.specs.Memory.{memories, head-of, write};
 ghost use Rattle.call_rules.specs.Promise.{Meets};
 ghost use Rattle.call_rules.specs.OnMemories.{new-step};
-ghost use Rattle.new_store.specs.Creating.{set-constants, relation-constants, NewChecked, emptied, Begun, Created};
-use memory::RunState;
+ghost use Rattle.new_store.specs.Creating.{NewChecked, freed, NewFits, NodesWritten};
 use store_check::head::*;
-
-// The numbers of a working memory with an index and a small memo.
-const LENT: usize = 12288;
 
 // Whether a store of k fields fits into memories of these lengths: 3k relation nodes and k set nodes.
 fn check(relations: usize, sets: usize, k: u32) -> call_rules::Check
@@ -38,69 +33,88 @@ fn check(relations: usize, sets: usize, k: u32) -> call_rules::Check
     call_rules::Check::Level(k)
 }
 
-// No node, and all places free: nodes of c numbers begin at `start`, their count is at `at`.
-fn begin(memory: &mut [u32], at: usize, start: usize, c: usize)
-    requires { ⌜ (at < start) × (0 < c) × (start ≤ length (now memory)) ⌝ }
-    ensures { λ _. ⌜ now (memory .exit) ≡ emptied at start c (now (memory .entry)) ⌝ }
+// All places free: nodes of c numbers begin at `start`.
+fn begin(memory: &mut [u32], start: usize, c: usize)
+    requires { ⌜ (0 < c) × (start ≤ length (now memory)) ⌝ }
+    ensures { λ _. ⌜ now (memory .exit) ≡ freed start c (now (memory .entry)) ⌝ }
 {
     let e = start + c * memory::places_of(memory.len() - start, c);
     memory::clear(&mut memory[start..e]);
-    memory[at] = 0;
 }
 
-// The sets' constants of level k, on no node.
-fn set_nodes(nodes: &mut [u32], work: &mut [u32], k: u8) -> RunState
-    ensures { λ r. ⌜ Performs set (set-constants k) (run-state true 0 0) (now (nodes .entry)) (now (nodes .exit)) (now (work .entry)) (now (work .exit)) r ⌝ }
+// The empty sets of all levels up to k, a node each: both children are the one below.
+fn set_nodes(nodes: &mut [u32], k: u32)
+    requires { ⌜ (k ≤ 32) × (2 * k ≤ length (now nodes)) ⌝ }
+    ensures { λ _. ⌜ NodesWritten 2 0 k (new-sets k) (now (nodes .entry)) (now (nodes .exit)) ⌝ }
 {
-    let s = RunState {
-        ok: true,
-        n: 0,
-        h: 0,
-    };
-    let z = sets::zero_at_depth(nodes, work, s, k);
-    sets::one_at_depth(nodes, work, z, k)
+    let mut i = 0;
+    while i < k {
+        let s = 2 * memory::as_index(i);
+        let h = 2 * i;
+        nodes[s] = h;
+        nodes[s + 1] = h;
+        i += 1;
+    }
 }
 
-// The relations' constants of level k, on no node.
-fn relation_nodes(nodes: &mut [u32], work: &mut [u32], k: u8) -> RunState
-    ensures { λ r. ⌜ Performs rel (relation-constants k) (run-state true 0 0) (now (nodes .entry)) (now (nodes .exit)) (now (work .entry))
-        (now (work .exit)) r ⌝ }
+// A node for each level up to k from place p on; the handle of the last. Where the field keeps its bit, a node has the one below it
+// among these, at level 0 c; where it changes, the one below among those from place q on, at level 0 d.
+fn level_nodes(nodes: &mut [u32], k: u32, p: u32, c: u32, q: u32, d: u32) -> u32
+    requires { ⌜ (k ≤ 32) × (p ≤ 64) × (q ≤ 64) × (4 * (p + k) ≤ length (now nodes)) ⌝ }
+    ensures { λ r. ⌜ NodesWritten 4 p (p + k) (levels (level-node p c q d) k) (now (nodes .entry)) (now (nodes .exit))
+        × (r ≡ level-handle rel p c k) ⌝ }
 {
-    let s = RunState {
-        ok: true,
-        n: 0,
-        h: 0,
-    };
-    let z = relations::zero_at_depth(nodes, work, s, k);
-    let o = relations::one_at_depth(nodes, work, z, k);
-    relations::top_at_depth(nodes, work, o, k)
+    let mut same = c;
+    let mut other = d;
+    let mut i = 0;
+    while i < k {
+        let s = 4 * memory::as_index(p + i);
+        nodes[s] = same;
+        nodes[s + 1] = other;
+        nodes[s + 2] = other;
+        nodes[s + 3] = same;
+        same = p + i + 2;
+        other = q + i + 2;
+        i += 1;
+    }
+    same
 }
 
-// The constants of both kinds, in memories that hold no node.
-fn fill(relations: &mut [u32], sets: &mut [u32], work: &mut [u32], k: u8) -> call_rules::Answer
-    requires { ⌜ Begun k (memories (now relations) (now sets)) (now work) ⌝ }
-    ensures { λ r. ⌜ Created k (memories (now (relations .entry)) (now (sets .entry))) (memories (now (relations .exit)) (now (sets .exit))) r ⌝ }
+// The empty relations, the identities and the full relations of all levels up to k, in turn; the handle of the last.
+fn relation_nodes(nodes: &mut [u32], k: u32) -> u32
+    requires { ⌜ (k ≤ 32) × (4 * (3 * k) ≤ length (now nodes)) ⌝ }
+    ensures { λ r. ⌜ NodesWritten 4 0 (3 * k) (new-relations k) (now (nodes .entry)) (now (nodes .exit))
+        × (r ≡ level-handle rel (2 * k) 1 k) ⌝ }
 {
-    let s = set_nodes(&mut sets[SET_HEAD..], work, k);
-    call_rules::finish::finish(sets, SET_COUNT, SET_HEAD, 2, 0, s);
-    memory::index::empty(work);
-    let r = relation_nodes(&mut relations[RELATION_HEAD..], work, k);
-    call_rules::finish::finish(relations, RELATION_COUNT, RELATION_HEAD, 4, 0, r)
+    level_nodes(nodes, k, 0, 0, 0, 0);
+    level_nodes(nodes, k, k, 1, 0, 0);
+    level_nodes(nodes, k, 2 * k, 1, 2 * k, 1)
 }
 
-// The same with the part of a clear working memory that serves so few nodes; all of it is zero again.
-fn made(relations: &mut [u32], sets: &mut [u32], work: &mut [u32], k: u8) -> call_rules::Answer
-    requires { ⌜ Begun k (memories (now relations) (now sets)) (now work) ⌝ }
-    ensures made { λ r. ⌜ Created k (memories (now (relations .entry)) (now (sets .entry))) (memories (now (relations .exit)) (now (sets .exit))) r ⌝ }
-    ensures clear { λ r. ⌜ now (work .exit) ≡ replicate (length (now (work .entry))) 0 ⌝ }
+// The set memory of a new store of k fields.
+fn write_sets(sets: &mut [u32], k: u32)
+    requires { ⌜ NewFits set k k (length (now sets)) ⌝ }
+    ensures { λ _. ⌜ now (sets .exit) ≡ write set (head-of set k k) (new-sets k) (now (sets .entry)) ⌝ }
 {
-    let e = if work.len() < LENT { work.len() } else { LENT };
-    let r = fill(relations, sets, &mut work[0..e], k);
-    memory::clear(&mut work[0..e]);
-    r
+    begin(sets, SET_HEAD, 2);
+    set_nodes(&mut sets[SET_HEAD..], k);
+    sets[SET_COUNT] = k;
 }
 
-// `SPPstore::new(k)`: the handle of the full relation, made last.
+// The relation memory of a new store of k fields; the handle of the full relation, made last.
+fn write_relations(relations: &mut [u32], k: u32) -> u32
+    requires { ⌜ NewFits rel k (3 * k) (length (now relations)) ⌝ }
+    ensures { λ r. ⌜ (now (relations .exit) ≡ write rel (head-of rel k (3 * k)) (new-relations k) (now (relations .entry)))
+        × (r ≡ level-handle rel (2 * k) 1 k) ⌝ }
+{
+    begin(relations, RELATION_HEAD, 4);
+    let h = relation_nodes(&mut relations[RELATION_HEAD..], k);
+    relations[FIELDS] = k;
+    relations[RELATION_COUNT] = 3 * k;
+    h
+}
+
+// `SPPstore::new(k)`: the handle of the full relation.
 pub fn new(relations: &mut [u32], sets: &mut [u32], work: &mut [u32], k: u32) -> call_rules::Answer
     ensures { λ r. ⌜ Meets (new-step k (memories (now (relations .entry)) (now (sets .entry))))
         (memories (now (relations .exit)) (now (sets .exit))) (now (work .entry)) (now (work .exit)) r ⌝ }
@@ -110,10 +124,8 @@ pub fn new(relations: &mut [u32], sets: &mut [u32], work: &mut [u32], k: u32) ->
     match check {
         call_rules::Check::No(r) => call_rules::Answer::Declined(r),
         call_rules::Check::Level(l) => {
-            begin(relations, RELATION_COUNT, RELATION_HEAD, 4);
-            begin(sets, SET_COUNT, SET_HEAD, 2);
-            relations[FIELDS] = l;
-            made(relations, sets, work, memory::as_level(l))
+            write_sets(sets, l);
+            call_rules::Answer::Handle(write_relations(relations, l))
         }
     }
 }

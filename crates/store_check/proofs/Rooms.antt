@@ -1,15 +1,20 @@
 -- Zeros in a part of a memory, and `room?` from them: what the functions of `room` say.
-use mathlib.Core.Path.{_≡_, sym, ap, _∙_}
+use mathlib.Core.Path.{_≡_, refl, sym, ap, _∙_}
+use mathlib.Core.Logic.{_↔_}
 use mathlib.Core.List.{List}
 use mathlib.Core.Bool.{Bool, true, false, _&&_}
 use Prim.Native.Nat.{ℕ, _+_, _-_, _*_, _/_, _<_, _≤_, min}
 use native.Mathlib.Nat.{mul-le-mul-left, mul-div-le}
 use native.Mathlib.Omega.{arith}
 use lib.ListN.{length, getD, length-drop}
+use lib.Bits.{bitOr, or-add-and, and-le-l, and-le-r}
 use lib.Dec.{eqb, leb}
+use borrow.Author.Count.{below-more}
+use borrow.Author.Tests.{eqb-true, eqb-false}
 use Rattle.memory.specs.Rows.{places-of}
 use Rattle.model.specs.Store.{Kind, set, rel, arity}
 use Rattle.model.specs.Programs.{all-below}
+use Rattle.model.proofs.Bools.{by-test}
 use Rattle.store_check.specs.Memory.{head, count-at, count, places-in}
 use Rattle.store_check.specs.Valid.{room?}
 use Rattle.store_check.proofs.Deciding.{Decided, decided-le, decided-eq, decided-all, decided-true, decided-false}
@@ -18,14 +23,30 @@ use Rattle.store_check.proofs.Decide.{room-says}
 zeros-say : (m : List ℕ) (s n : ℕ) → Decided (all-below n (λ j. eqb (getD m (s + j) 0) 0)) ((j : ℕ) → j < n → getD m (s + j) 0 ≡ 0)
 zeros-say m s n = decided-all n (λ j. eqb (getD m (s + j) 0) 0) (λ j. getD m (s + j) 0 ≡ 0) (λ j. decided-eq (getD m (s + j) 0) 0)
 
--- the number at i is not zero; or all before i are, and no more are asked for
-pub not-zeros : (m : List ℕ) (s e i : ℕ) → s ≤ i → i < e → (getD m i 0 ≡ 0 → ⊥) → false ≡ all-below (e - s) (λ j. eqb (getD m (s + j) 0) 0)
-not-zeros m s e i a b h =
-    let q : s + (i - s) ≡ i = omega arith in
-    sym (decided-false (zeros-say m s (e - s)) (λ z. h (ap (λ i. getD m i 0) (sym q) ∙ z (i - s) (omega arith))))
+-- the bits that some number from s to before i has: none exactly where each number is 0
+abbrev pub BitsOf : List ℕ → ℕ → ℕ → ℕ → Type 0
+BitsOf m s i bits = (bits ≡ 0) ↔ ((j : ℕ) → j < i → s ≤ j → getD m j 0 ≡ 0)
 
-pub all-zeros : (m : List ℕ) (s e i : ℕ) → e ≤ i → ((j : ℕ) → j < i → s ≤ j → getD m j 0 ≡ 0) → true ≡ all-below (e - s) (λ j. eqb (getD m (s + j) 0) 0)
-all-zeros m s e i a h = sym (decided-true (zeros-say m s (e - s)) (λ j b. h (s + j) (omega arith) (omega arith)))
+pub bits-none : (m : List ℕ) (s : ℕ) → BitsOf m s s 0
+bits-none m s = (λ e j h l. absurd (omega arith), λ z. refl)
+
+pub bits-more : (m : List ℕ) (s i bits : ℕ) → s ≤ i → BitsOf m s i bits → BitsOf m s (i + 1) (bitOr bits (getD m i 0))
+bits-more m s i bits h B =
+    let x = getD m i 0 in
+    let a = or-add-and bits x in
+    let b = and-le-l bits x in
+    let c = and-le-r bits x in (
+      λ e. below-more (λ j. s ≤ j → getD m j 0 ≡ 0) i (B .0 (omega arith)) (λ l. omega arith),
+      λ z. let u = z i (omega arith) h in let v = B .1 (λ j l. z j (omega arith)) in omega arith,
+    )
+
+pub zeros-by-bits : (m : List ℕ) (s e bits : ℕ) → BitsOf m s e bits → eqb bits 0 ≡ all-below (e - s) (λ j. eqb (getD m (s + j) 0) 0)
+zeros-by-bits m s e bits B =
+    let Z = zeros-say m s (e - s) in
+    by-test (λ b. b ≡ all-below (e - s) (λ j. eqb (getD m (s + j) 0) 0)) (eqb bits 0)
+    (λ y. sym (decided-true Z (λ j l. B .0 (eqb-true bits 0 y) (s + j) (omega arith) (omega arith))))
+    (λ n. sym (decided-false Z (λ z. eqb-false bits 0 n (B .1 (λ j l h.
+    let q : s + (j - s) ≡ j = omega arith in ap (λ i. getD m i 0) (sym q) ∙ z (j - s) (omega arith))))))
 
 -- n of the p nodes that fit into l numbers
 pub part-ends : (l c p n : ℕ) → p ≡ places-of l c → n ≤ p → (c * n ≤ c * p) × (c * p ≤ l)

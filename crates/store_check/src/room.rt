@@ -10,19 +10,18 @@ ghost use Rattle.store_check.specs.StoreChecking.{Tests, HeadsFit};
 ghost use Rattle.store_check.specs.Valid.{room?};
 use crate::head::*;
 
-// Whether the numbers from s to before e are zero.
+// Whether the numbers from s to before e are zero: all are looked at, so that the compiler takes several at a time.
 fn zeros(m: &[u32], s: usize, e: usize) -> bool
     requires { ⌜ (s ≤ e) × (e ≤ length (now m)) ⌝ }
     ensures { λ r. ⌜ r ≡ all-below (e - s) (λ j. eqb (getD (now (m .entry)) (s + j) 0) 0) ⌝ }
 {
+    let mut bits: u32 = 0;
     let mut i = s;
     while i < e {
-        if m[i] != 0 {
-            return false;
-        }
+        bits = bits | m[i];
         i += 1;
     }
-    true
+    bits == 0
 }
 
 // Whether a memory whose nodes of c numbers begin at `start` has room for as many as its count says, which is at `at`.

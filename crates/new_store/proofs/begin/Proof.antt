@@ -1,9 +1,8 @@
--- `begin` clears the places and the count.
+-- `begin` clears the places.
 use mathlib.Core.Path.{ap, _∙_}
-use mathlib.Core.List.{List}
-use Prim.Native.Nat.{ℕ, _+_, _-_, _*_, _≤_}
+use Prim.Native.Nat.{_+_, _-_, _*_, _≤_}
 use native.Mathlib.Omega.{arith}
-use lib.ListN.{length, set as put}
+use lib.ListN.{length}
 use borrow.Author.Needs.{needs}
 use Rattle.store_check.specs.Commit.{cleared}
 use Rattle.store_check.proofs.Rooms.{part-ends}
@@ -15,14 +14,15 @@ use Rattle.new_store.proofs.begin.Tie as tie
 ends : (c : tie.After-places-of) → (let a = c .before .before .args in a .start + a .c * c .places-of .result ≤ length (a .memory .now))
 ends c = let a = c .before .before .args in
     let t = part-ends (length (a .memory .now) - a .start) (a .c) (c .places-of .result) (c .places-of .result) (c .places-of .ensures) (omega arith) in
-    omega (arith, t .1, c .before .before .pre .2)
+    omega (arith, t .1, c .before .before .pre .1)
 
 returns : tie.Need-returns
 returns c =
-    let at-places = c .before .before .before .before in
-    let a = at-places .before .before .args in
-    ap (λ (x : List ℕ). put x (a .at) 0) (cleared-by _ _ _ _ (ends at-places) (c .before .before .clear .ensures)
-    ∙ ap (λ n. cleared (a .start) (a .start + a .c * n) (a .memory .now)) (at-places .places-of .ensures))
+    let after-places-of = c .before .before .before .before in
+    let entry = after-places-of .before .before in
+    let a = entry .args in
+    cleared-by _ _ _ _ (ends after-places-of) (c .before .before .clear .ensures)
+    ∙ ap (λ n. cleared (a .start) (a .start + a .c * n) (a .memory .now)) (after-places-of .places-of .ensures)
 
 pub begin-spec : {M : Type 1} → statement M
 begin-spec =
@@ -37,7 +37,5 @@ begin-spec =
     (λ c. search needs)
     (λ c. ends c)
     (λ c κs. search needs)
-    (λ c. search needs)
-    (λ c. search needs)
     (λ c. search needs)
     returns)

@@ -40,12 +40,16 @@ returns-6 c =
     let at-if2 = at-if3 .before in
     let at-if1 = at-if2 .before in (
       refl,
-      at-if1 .if1 .left,
-      at-if2 .if2 .left,
-      at-if3 .if3 .left,
-      omega (arith, c .before .before .if4 .left, after-as-index .as-index .ensures, after-places-of .places-of .ensures),
-      omega
-          (arith, c .if5 .left, after-as-index .as-index .ensures, c .before .places-of2 .ensures),
+      record {
+        few = at-if1 .if1 .left;
+        headed = at-if2 .if2 .left;
+        within = omega (arith, c .before .before .if4 .left, after-as-index .as-index .ensures, after-places-of .places-of .ensures);
+      },
+      record {
+        few = at-if1 .if1 .left;
+        headed = at-if3 .if3 .left;
+        within = omega (arith, c .if5 .left, after-as-index .as-index .ensures, c .before .places-of2 .ensures);
+      },
     )
 
 pub check-spec : {M : Type 1} → statement M

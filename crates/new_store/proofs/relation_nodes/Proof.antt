@@ -1,18 +1,43 @@
--- `relation_nodes` runs its three programs in order.
+-- `relation_nodes` writes the nodes of three constants, one after the other.
+use native.Mathlib.Omega.{arith}
 use borrow.Author.Needs.{needs}
-use Rattle.memory.proofs.Steps.{performs-then}
+use Rattle.new_store.proofs.Writing.{wrote-relations}
 use Rattle.new_store.proofs.relation_nodes.Statement.{statement}
 use Rattle.new_store.proofs.relation_nodes.Tie as tie
 
+level-nodes-requires : tie.Need-level-nodes-requires
+level-nodes-requires c κs = (omega arith, omega arith, omega arith, omega arith)
+
+level-nodes-requires-2 : tie.Need-level-nodes-requires-2
+level-nodes-requires-2 c κs =
+    let after-level-nodes = c .before .before .before in
+    let w = after-level-nodes .level-nodes .ensures .0 in (omega arith, omega arith, omega arith, omega arith)
+
+level-nodes-requires-3 : tie.Need-level-nodes-requires-3
+level-nodes-requires-3 c κs =
+    let after-level-nodes2 = c .before .before .before in
+    let after-level-nodes = after-level-nodes2 .before .before .before .before in
+    let w = after-level-nodes .level-nodes .ensures .0 in
+    let v = after-level-nodes2 .level-nodes2 .ensures .0 in (omega arith, omega arith, omega arith, omega arith)
+
 returns : tie.Need-returns
 returns c =
-    let after-top-at-depth = c .before .before .before .before in
-    let after-one-at-depth = after-top-at-depth .before .before .before .before .before .before .before in
-    let after-zero-at-depth = after-one-at-depth .before .before .before .before .before .before .before in
-    performs-then (after-zero-at-depth .zero-at-depth .ensures)
-    (performs-then (after-one-at-depth .one-at-depth .ensures) (after-top-at-depth .top-at-depth .ensures))
+    let after-level-nodes2 = c .before .before .before .before .before .before in
+    let after-level-nodes = after-level-nodes2 .before .before .before .before in
+    let entry = after-level-nodes .before .before .before in (
+      wrote-relations (entry .args .k) (after-level-nodes .level-nodes .ensures .0) (after-level-nodes2 .level-nodes2 .ensures .0)
+          (c .before .before .level-nodes3 .ensures .0),
+      c .before .before .level-nodes3 .ensures .1,
+    )
 
 pub relation-nodes-spec : {M : Type 1} → statement M
 relation-nodes-spec =
     tie.close
-    (tie.spec (λ c κs. search needs) (λ c κs. search needs) (λ c κs. search needs) (λ c. search needs) (λ c. search needs) returns)
+    (tie.spec
+    level-nodes-requires
+    level-nodes-requires-2
+    (λ c. search needs)
+    (λ c. search needs)
+    level-nodes-requires-3
+    (λ c. search needs)
+    returns)
