@@ -22,7 +22,7 @@ pub const RELATIONS: usize = RELATION_HEAD + 4 * PLACES;
 pub const SETS: usize = SET_HEAD + 2 * PLACES;
 
 // The numbers of working memory that are lent: the index, a property word a place, and a memo of 4,096 entries.
-const WORK: usize = 32768;
+const WORK: usize = 45056;
 
 // The most bytes that are listed.
 const MOST: usize = 16384;

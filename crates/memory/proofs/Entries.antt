@@ -1,18 +1,18 @@
 -- The entries of the memo: one that is read answers, and one that is written leaves the others as they were.
-use mathlib.Core.Path.{_≡_, refl, sym, ap, _∙_, subst}
+use mathlib.Core.Path.{_≡_, refl, ap, _∙_, subst}
 use mathlib.Core.List.{List}
 use mathlib.Core.Logic.{_⊎_, inl, inr}
 use Prim.Native.Nat.{ℕ, _+_, _*_, _/_, _%_, _<_, _≤_}
 use native.Mathlib.Decide.{ℕ-discrete}
 use native.Mathlib.Omega.{arith}
-use lib.ListN.{length, getD, set, drop, length-set}
+use lib.ListN.{length, getD, set, length-set}
 use lib.Seq.{getD-set-same, getD-set-other, drop-set-lt}
 use Rattle.model.specs.Store.{Store}
 use Rattle.model.specs.Programs.{ran, run}
 use Rattle.model.specs.Safety.{Settled}
 use Rattle.model.proofs.Extends.{ext-refl}
 use Rattle.memory.specs.Memo.{memo-program, op-limit}
-use Rattle.memory.specs.Working.{memo-size, operand-limit, entry-op, entry-level, entry-left, entry-right, entry-result, Entry, Remembers}
+use Rattle.memory.specs.Working.{memo-size, operand-limit, entry-result, Entry, Remembers}
 use Rattle.memory.specs.Performing.{Recalls, Says, KeepsEntry}
 use Rattle.memory.specs.declared.Lookup.the-variants.{Answer, Operands}
 

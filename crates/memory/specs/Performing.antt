@@ -1,7 +1,7 @@
 -- What a function on the nodes of one kind does: it runs a program, within the places. Contracts hold over every store B
 -- that has the nodes of the other kind, or over those with a condition Q.
 use mathlib.Core.Path.{_≡_}
-use mathlib.Core.List.{List, [], _∷_}
+use mathlib.Core.List.{List}
 use mathlib.Core.Bool.{Bool, true, _&&_}
 use mathlib.Core.Logic.{_⊎_}
 use Prim.Native.Nat.{ℕ, _+_, _*_, _<_, _≤_}

@@ -2,7 +2,7 @@
 // level gives way: it is the soonest made again, and asked for least once the level above is complete (docs/DECISIONS.md, Speed).
 ghost use mathlib.Core.Path.{_≡_};
 ghost use mathlib.Core.Bool.{true, false};
-ghost use Prim.Native.Nat.{ℕ, _+_, _*_, _/_, _%_, _<_, _≤_};
+ghost use Prim.Native.Nat.{_+_, _*_, _/_, _%_, _<_, _≤_};
 ghost use lib.ListN.{length, getD};
 ghost use Rattle.model.specs.Store.{Store};
 ghost use Rattle.model.specs.Programs.{run, ran};

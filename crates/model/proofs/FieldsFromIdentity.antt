@@ -11,7 +11,7 @@ use lib.Dec.{eqb, T, eqb→eq}
 use borrow.Author.Tests.{eq-eqb, ne-eqb}
 use Rattle.model.specs.FieldsFromIdentity.{IdentityHeld, from-identity}
 use Rattle.model.specs.Operations.{each-field}
-use Rattle.model.specs.Programs.{isEmpty, isIdentity, ending, agrees, Prog, look, mk, bind, _>>=_, Ran, ran, run}
+use Rattle.model.specs.Programs.{isEmpty, isIdentity, ending, agrees, Prog, mk, bind, _>>=_, Ran, ran, run}
 use Rattle.model.specs.Safety.{Within, Safe, Settled}
 use Rattle.model.specs.Store.{rel, Store, with-nodes, pick, get, child, place, mk-store, mk-handle}
 use Rattle.model.specs.WellFormed.{Held, WellFormed, Extends}
@@ -20,48 +20,10 @@ use Rattle.model.proofs.Canonical.{formed-sized, get-length}
 use Rattle.model.proofs.Extends.{ext-refl, ext-trans}
 use Rattle.model.proofs.Levels.{agrees-once}
 use Rattle.model.proofs.Mk.{had}
+use Rattle.model.proofs.Reducing.{Becomes, named, further, at-first, and-then, passed, regrouped, seen}
 use Rattle.model.proofs.Rules.{held-within}
-use Rattle.model.proofs.Settle.{run-ext, settled}
+use Rattle.model.proofs.Settle.{settled}
 use Rattle.model.proofs.Tests.{all-below-T}
-
--- STEPS. From S on p runs as q, which is safe where p is
-pub record Becomes (p q : Prog) (S : Store) : Type 0 where
-  pub runs : run p S ≡ run q S
-  pub safe : Safe p S → Safe q S
-
-named : {p q : Prog} {S : Store} → p ≡ q → Becomes p q S
-named {p} {q} {S} e = record { runs = ap (λ x. run x S) e; safe = subst (λ x. Safe x S) e }
-
-further : {p q r : Prog} {S : Store} → Becomes p q S → Becomes q r S → Becomes p r S
-further a b = record { runs = a .runs ∙ b .runs; safe = λ s. b .safe (a .safe s) }
-
--- what comes first, what comes then
-at-first : {p q : Prog} {f : ℕ → Prog} {S : Store} → Becomes p q S → Becomes (p >>= f) (q >>= f) S
-unfolding run Safe
-at-first {f = f} a = record {
-  runs = ap (λ (R : Ran). run (f (R .value)) (R .store)) (a .runs);
-  safe = λ s. (a .safe (s .0), subst (λ (R : Ran). Safe (f (R .value)) (R .store)) (a .runs) (s .1));
-}
-
-and-then : {p : Prog} {f g : ℕ → Prog} {S : Store} → ((S′ : Store) (r : ℕ) → Extends S S′ → Becomes (f r) (g r) S′) → Becomes (p >>= f) (p >>= g) S
-unfolding run Safe
-and-then {p} {S = S} u = let v = u (run p S .store) (run p S .value) (run-ext p S) in record { runs = v .runs; safe = λ s. (s .0, v .safe (s .1)) }
-
--- a step that adds nothing
-passed : {p : Prog} {f : ℕ → Prog} {S S′ : Store} {h : ℕ} → Settled p S h → Extends S S′ → Becomes (p >>= f) (f h) S′
-unfolding run Safe
-passed {f = f} {S′ = S′} s E = let e = s .again S′ E in record {
-  runs = ap (λ (R : Ran). run (f (R .value)) (R .store)) e;
-  safe = λ t. subst (λ (R : Ran). Safe (f (R .value)) (R .store)) e (t .1);
-}
-
-regrouped : {p : Prog} {q : ℕ → Prog} {f : ℕ → Prog} {S : Store} → Becomes (p >>= λ r. q r >>= f) ((p >>= q) >>= f) S
-unfolding run Safe
-regrouped = record { runs = refl; safe = λ s. ((s .0, s .1 .0), s .1 .1) }
-
-seen : {h : ℕ} {x : List ℕ} {f : List ℕ → Prog} {S : Store} → Within rel S h → get rel S h ≡ x → Becomes (f x) (look rel h f) S
-unfolding run Safe
-seen {f = f} {S = S} w e = record { runs = ap (λ y. run (f y) S) (sym e); safe = λ s. (w, subst (λ y. Safe (f y) S) (sym e) s) }
 
 -- A NODE THAT IS HELD is not made again
 held-made : {k : ℕ} {S : Store} (x : List ℕ) (h : ℕ) → WellFormed k S → Within rel S h → get rel S h ≡ x → run (mk rel x) S ≡ ran S h

@@ -2,7 +2,7 @@
 use mathlib.Core.Path.{_≡_}
 use mathlib.Core.List.{List}
 use mathlib.Core.Bool.{true}
-use Prim.Native.Nat.{ℕ, _-_, _<_}
+use Prim.Native.Nat.{ℕ, _-_}
 use Rattle.model.specs.Programs.{Prog}
 use Rattle.model.specs.Recursion.{Op1, node1, op1, Op2, node2, op2, four}
 use Rattle.model.specs.Store.{Kind, rel}

@@ -2,7 +2,7 @@
 use mathlib.Core.Path.{_≡_, sym, subst}
 use mathlib.Core.List.{List, [], _∷_}
 use mathlib.Core.Bool.{true}
-use Prim.Native.Nat.{ℕ, _-_, _<_}
+use Prim.Native.Nat.{ℕ, _-_}
 use Rattle.model.specs.Programs.{Prog, same, ret, ask}
 use Rattle.model.specs.Recursion.{node2}
 use Rattle.model.specs.Sets.{intersects-op, intersects}

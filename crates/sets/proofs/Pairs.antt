@@ -2,7 +2,7 @@
 use mathlib.Core.Path.{_≡_, sym, subst}
 use mathlib.Core.List.{List, [], _∷_}
 use mathlib.Core.Bool.{true}
-use Prim.Native.Nat.{ℕ, _-_, _<_}
+use Prim.Native.Nat.{ℕ, _-_}
 use Rattle.model.specs.Programs.{Prog, mk}
 use Rattle.model.specs.Recursion.{Op2, node2, op2, each2}
 use Rattle.model.specs.Store.{set}

@@ -1,5 +1,4 @@
 -- `kept` asks the memo, else makes the nodes: from the identity where it is held, else field by field.
-use native.Mathlib.Omega.{arith}
 use borrow.Author.Tests.{not-true, not-false}
 use borrow.Author.Needs.{needs}
 use Rattle.memory.proofs.Remembering.{called-kept, recalled}
