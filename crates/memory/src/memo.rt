@@ -129,7 +129,7 @@ fn entry(work: &[u32], i: usize, first: u32, key: u32) -> u32
     v
 }
 
-// The entry of the window from `at` on that is the operation's, else the first that is none, else one of the lowest level. The entry at `at` is taken, and not
+// The entry of the window from `at` on that is the operation's, else one of the lowest level, of which one that is none is lower than all. The entry at `at` is not
 // the operation's.
 fn place(work: &[u32], at: usize, first: u32, key: u32) -> usize
     requires { ⌜ at + 24 ≤ length (now work) ⌝ }
@@ -141,9 +141,6 @@ fn place(work: &[u32], at: usize, first: u32, key: u32) -> usize
     let e = at + WINDOW_NUMBERS;
     while i < e {
         let v = work[i + 1];
-        if v == 0 {
-            return i;
-        }
         if work[i] == first {
             if v / OPERANDS == key {
                 return i;

@@ -28,18 +28,13 @@ loop-holds c = (omega arith, omega arith, omega arith, (omega arith, omega arith
 
 returns : tie.Need-returns Inv-loop μ-loop
 returns c =
-    let at-loop = c .before .before .before in
-    let inv = at-loop .loop .inv in begins _ _ _ (inv .0) (inv .1) (inv .2) (c .before .before .loop-test .taken)
-
-returns-2 : tie.Need-returns-2 Inv-loop μ-loop
-returns-2 c =
-    let in-loop = c .before .before .before .before .before in
+    let in-loop = c .before .before .before .before in
     let at-loop = in-loop .before in
     let inv = at-loop .loop .inv in begins _ _ _ (inv .0) (inv .1) (inv .2) (in-loop .loop-test .taken)
 
 loop-again : tie.Need-loop-again Inv-loop μ-loop
 loop-again c =
-    let in-loop = c .before .before .before .before .before in
+    let in-loop = c .before .before .before .before in
     let at-loop = in-loop .before in
     let entry = at-loop .before .before in
     let inv = at-loop .loop .inv in
@@ -47,13 +42,13 @@ loop-again c =
       inv .0,
       even-step at (at-loop .loop .i) (inv .1),
       omega (arith, inv .2),
-      ⊎-elim {C = Begins at (c .if4 .lowest)}
+      ⊎-elim {C = Begins at (c .if3 .lowest)}
           (λ f. subst (Begins at) (sym (f .1)) (begins _ _ _ (inv .0) (inv .1) (inv .2) (in-loop .loop-test .taken)))
-          (λ f. subst (Begins at) (sym (f .1)) (inv .3)) (c .if4 .came),
+          (λ f. subst (Begins at) (sym (f .1)) (inv .3)) (c .if3 .came),
     )
 
-returns-3 : tie.Need-returns-3 Inv-loop μ-loop
-returns-3 c = c .before .loop .inv .3
+returns-2 : tie.Need-returns-2 Inv-loop μ-loop
+returns-2 c = c .before .loop .inv .3
 
 pub place-spec : {M : Type 1} → statement M
 place-spec =
@@ -70,11 +65,10 @@ place-spec =
     (λ c. search needs)
     (λ c. search needs)
     (λ c. search needs)
+    (λ c. search needs)
+    (λ c. search needs)
     returns
     (λ c. search needs)
     (λ c. search needs)
-    returns-2
-    (λ c. search needs)
-    (λ c. search needs)
     loop-again
-    returns-3)
+    returns-2)
