@@ -1,67 +1,48 @@
 //! One call on stores of growing size: its time beside that of the entry check alone and of the Rust.
 
-use crate::sides::{timed, Lent, MOST_PLACES};
+use crate::call::Call;
+use crate::sides::{Lent, MOST_PLACES};
 use crate::tables;
-use oracle::policy::{build, judge, Policy};
 use oracle::random::Random;
 use packet_store as library;
-use packet_store::{relations_len, RELATION_COUNT, RELATION_HEAD, SET_COUNT, SET_HEAD};
-use reference::sp::{SPnode, SP};
-use reference::spp::{SPPnode, SPPstore, SPP};
-use std::time::Duration;
+use packet_store::relations_len;
+use reference::spp::{SPPstore, SPP};
 
 /// The relation nodes of the stores.
 const SIZES: [u32; 3] = [100, 1000, 4000];
 const FIELDS: u32 = 8;
 const TRIES: usize = 101;
 
-/// A store of the least size, before other nodes are added, with operands of level k and a policy.
+/// A store of the least size, before other nodes are added, and the calls that are made on it.
 struct Base {
     lent: Lent,
-    a: u32,
-    b: u32,
-    text: String,
-    policy: Policy,
+    calls: Vec<Call>,
 }
 
-/// A call: its name, how the library makes it and how the Rust does.
-type Call = (&'static str, fn(&mut Lent, &Base) -> u32, fn(&mut SPPstore, &Base) -> u32);
-
-/// The first one adds nothing, so its time is that of the entry check and of clearing the working memory.
-const CALLS: [Call; 5] = [
-    (
-        "is_zero",
-        |m, base| {
-            let zero = library::relation_is_zero(&m.relations, &m.sets, &mut m.work, base.a);
-            zero.expect("held").into()
-        },
-        |s, base| s.is_zero(SPP(base.a)).into(),
-    ),
-    (
-        "union",
-        |m, base| {
-            library::relation_union(&mut m.relations, &m.sets, &mut m.work, base.a, base.b)
-                .expect("fits")
-        },
-        |s, base| s.union(SPP(base.a), SPP(base.b)).0,
-    ),
-    (
-        "sequence",
-        |m, base| {
-            library::relation_sequence(&mut m.relations, &m.sets, &mut m.work, base.a, base.b)
-                .expect("fits")
-        },
-        |s, base| s.sequence(SPP(base.a), SPP(base.b)).0,
-    ),
-    (
-        "star",
-        |m, base| {
-            library::relation_star(&mut m.relations, &m.sets, &mut m.work, base.a).expect("fits")
-        },
-        |s, base| s.star(SPP(base.a)).0,
-    ),
-    ("policy", |m, base| m.policy(&base.text).expect("fits"), |s, base| build(&base.policy, s).0),
-];
+/// The calls on relations of level k. The first adds nothing, so its time is that of the entry check and of clearing the working memory.
+fn calls(a: u32, b: u32, text: String) -> Vec<Call> {
+    vec![
+        Call::new(
+            "is_zero",
+            move |m| {
+                let zero = library::relation_is_zero(&m.relations, &m.sets, &mut m.work, a);
+                zero.expect("held").into()
+            },
+            move |s| s.is_zero(SPP(a)).into(),
+        ),
+        Call::binary("union", library::relation_union, SPPstore::union, a, b),
+        Call::binary("sequence", library::relation_sequence, SPPstore::sequence, a, b),
+        Call::new(
+            "star",
+            move |m| {
+                let star = library::relation_star(&mut m.relations, &m.sets, &mut m.work, a);
+                star.expect("fits")
+            },
+            move |s| s.star(SPP(a)).0,
+        ),
+        Call::policy("policy", FIELDS, text),
+    ]
+}
 
 /// A table for one working memory.
 pub fn table(seed: u64, work_bytes: usize) -> String {
@@ -75,7 +56,7 @@ pub fn table(seed: u64, work_bytes: usize) -> String {
     let title = format!("k = {FIELDS}, working memory {} KiB", work_bytes >> 10);
     let mut table =
         format!("{title}\ncall        nodes  ours, us  growth   check  Rust, us   ratio\n");
-    for (row, (name, _, _)) in CALLS.iter().enumerate() {
+    for (row, Call { name, .. }) in base.calls.iter().enumerate() {
         let mut before = None;
         for (size, times) in SIZES.iter().zip(&times) {
             let [ours, rust] = times[row];
@@ -92,48 +73,31 @@ pub fn table(seed: u64, work_bytes: usize) -> String {
 }
 
 /// Microseconds of each call on either side, the least of many tries from the same nodes; the calls take turns.
-fn least(base: &mut Base) -> [[f64; 2]; CALLS.len()] {
-    let mut least = [[f64::INFINITY; 2]; CALLS.len()];
+fn least(Base { lent, calls }: &mut Base) -> Vec<[f64; 2]> {
+    let mut least = vec![[f64::INFINITY; 2]; calls.len()];
     for _ in 0..TRIES {
-        for (call, least) in CALLS.into_iter().zip(&mut least) {
-            let [ours, rust] = time(call, base).map(|time| time.as_nanos() as f64 / 1e3);
+        for (call, least) in calls.iter().zip(&mut least) {
+            let [ours, rust] = call.time(lent).map(|time| time.as_nanos() as f64 / 1e3);
             *least = [least[0].min(ours), least[1].min(rust)];
         }
     }
     least
 }
 
-/// The time of a call on either side; the nodes stay as they were.
-fn time((name, ours, rust): Call, base: &mut Base) -> [Duration; 2] {
-    let nodes = base.lent.relations.clone();
-    let mut lent = std::mem::replace(&mut base.lent, Lent::new(0, 0));
-    let (handle, our_time) = timed(|| ours(&mut lent, base));
-    let added = std::mem::replace(&mut lent.relations, nodes);
-    base.lent = lent;
-    let mut store = rust_store(&base.lent);
-    let (reference, rust_time) = timed(|| rust(&mut store, base));
-    assert_eq!(handle, reference, "{name}");
-    assert_eq!(added[1] as usize, store.nodes().len(), "{name}");
-    [our_time, rust_time]
-}
-
 /// Two relations whose union, product and star are new, and a policy, in a store of at most 100 nodes.
 fn base(random: &mut Random, work_bytes: usize) -> Base {
     loop {
         let text = tables::rules(FIELDS, 10, random);
-        let policy = judge(text.as_bytes(), FIELDS).expect("tables keep the rules");
         let mut lent = Lent::new(MOST_PLACES, work_bytes);
         let a = lent.run(FIELDS, &tables::rules(FIELDS, 2, random)).expect("fits");
-        let b = lent.policy(&tables::rules(FIELDS, 2, random));
-        let base = Base { lent, a, b: b.expect("fits"), text, policy };
-        let adds = |(_, _, rust): &Call| {
-            let mut store = rust_store(&base.lent);
-            rust(&mut store, &base);
-            let added = store.nodes().len() - base.lent.count() as usize;
-            (4..=MOST_PLACES - SIZES[2] as usize).contains(&added)
+        let b = lent.policy(&tables::rules(FIELDS, 2, random)).expect("fits");
+        let calls = calls(a, b, text);
+        let adds = |call: &Call| {
+            let ([_, relations, _], _) = call.rust(&lent);
+            (4..=MOST_PLACES as u32 - SIZES[2]).contains(&(relations - lent.count()))
         };
-        if base.lent.count() <= SIZES[0] && CALLS[1..].iter().all(adds) {
-            return base;
+        if lent.count() <= SIZES[0] && calls[1..].iter().all(adds) {
+            return Base { lent, calls };
         }
     }
 }
@@ -165,18 +129,4 @@ fn fill(lent: &mut Lent, size: u32, random: &mut Random) {
         );
         made.expect("fits");
     }
-}
-
-/// A store of the Rust with the nodes lent.
-fn rust_store(lent: &Lent) -> SPPstore {
-    let relations = lent.relations[RELATION_HEAD..]
-        .chunks_exact(4)
-        .take(lent.relations[RELATION_COUNT] as usize);
-    let sets = lent.sets[SET_HEAD..].chunks_exact(2).take(lent.sets[SET_COUNT] as usize);
-    let relation =
-        |x: &[u32]| SPPnode { x00: SPP(x[0]), x01: SPP(x[1]), x10: SPP(x[2]), x11: SPP(x[3]) };
-    let set = |x: &[u32]| SPnode { x0: SP(x[0]), x1: SP(x[1]) };
-    let (relations, sets): (Vec<_>, Vec<_>) =
-        (relations.map(relation).collect(), sets.map(set).collect());
-    SPPstore::with_nodes(lent.relations[library::FIELDS], &relations, &sets)
 }

@@ -1,11 +1,19 @@
 //! Times the proved store beside the Rust; README.md says what each command prints.
 
+mod buddy;
+mod call;
 mod calls;
 mod lister;
 mod policies;
+mod rounds;
+mod rows;
 mod sides;
+mod slow;
+mod slow_calls;
+mod slow_texts;
 mod stack;
 mod tables;
+mod worst;
 
 use policies::{Draw, Side};
 use std::env;
@@ -14,7 +22,6 @@ use std::process::ExitCode;
 
 /// The policies of the first table: k = 32, from 1,000 bytes and 1,000 relation nodes on.
 const LARGE: Draw = Draw { fields: 32, count: 200, bytes: 1000, nodes: 1000 };
-const LARGE_WORKS: [usize; 3] = [64 << 10, 256 << 10, 1 << 20];
 
 /// The policies of small k, for which no working memory is needed.
 const SMALL: [u32; 4] = [2, 4, 6, 8];
@@ -28,6 +35,9 @@ fn main() -> ExitCode {
     match words[..] {
         [] => tables(1),
         ["policies", seed] => large(number(seed)),
+        ["worst"] => worst(),
+        ["slow"] => slow(),
+        ["slow", case, kib] => slow::once(case, (number(kib) as usize) << 10),
         ["small", seed] => small(number(seed)),
         ["calls", seed] => calls(number(seed)),
         ["stack", seed] => stack(number(seed)),
@@ -37,7 +47,8 @@ fn main() -> ExitCode {
         ["once", "rust"] => policies::once(Side::Rust, LARGE.fields),
         _ => {
             eprintln!(
-                "usage: bench [policies SEED | small SEED | calls SEED | stack SEED | lister SEED | texts SEED COUNT | once (ours | rust)]"
+                "usage: bench [policies SEED | worst | slow [CASE KIB] | small SEED | calls SEED | stack SEED | lister SEED \
+                 | texts SEED COUNT | once (ours | rust)]"
             );
             return ExitCode::from(2);
         }
@@ -52,6 +63,8 @@ fn number(word: &str) -> u64 {
 /// All tables.
 fn tables(seed: u64) {
     large(seed);
+    worst();
+    slow();
     small(seed);
     calls(seed);
     stack(seed);
@@ -59,7 +72,15 @@ fn tables(seed: u64) {
 }
 
 fn large(seed: u64) {
-    println!("{}", policies::table(seed, LARGE, &LARGE_WORKS));
+    println!("{}", policies::table(seed, LARGE, &rows::WORKS));
+}
+
+fn worst() {
+    println!("{}", worst::table());
+}
+
+fn slow() {
+    println!("{}", slow::table());
 }
 
 fn small(seed: u64) {

@@ -8,6 +8,7 @@ use std::time::{Duration, Instant};
 pub const MOST_PLACES: usize = 4096;
 
 /// The memory that the proved store is lent, allocated once for many policies.
+#[derive(Clone)]
 pub struct Lent {
     pub relations: Vec<u32>,
     pub sets: Vec<u32>,
