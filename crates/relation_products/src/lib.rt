@@ -111,7 +111,7 @@ fn sequence_node(
     if !z.empty {
         return matrix(nodes, work, s, below, p, q);
     }
-    if relations::lifted(p, q) {
+    if relations::shortcuts::lifted(p, q) {
         let r = sequence(nodes, work, s, below, p.x00, q.x00);
         return relations::mk(nodes, work, r, r.h, q.x01, q.x01, r.h);
     }

@@ -1,15 +1,14 @@
 // Relations on packets, after spp.rs: operations on relation nodes in a lent slice. Each runs its program of `model` for every working memory.
 ghost use mathlib.Core.Path.{_≡_};
 ghost use mathlib.Core.List.{[], _∷_};
-ghost use mathlib.Core.Bool.{true, false};
 ghost use Prim.Native.Nat.{_≤_};
 ghost use Rattle.model.specs.Store.{rel};
 ghost use Rattle.model.specs.Programs.{Prog};
-ghost use Rattle.model.specs.Operations.{constant, identity-at-depth, is-zero, complement, union, intersect, xor, difference};
+ghost use Rattle.model.specs.Recursion.{node2};
+ghost use Rattle.model.specs.Operations.{constant, identity-at-depth, is-zero, complement, union, union-op, intersect, xor, difference};
 ghost use Rattle.model.specs.Relations.{flip};
 ghost use Rattle.memory.specs.Performing.{Performs, ReadsChildren};
 ghost use Rattle.memory.specs.Noting.{LevelIs};
-ghost use Rattle.relations.specs.Shapes.{Lifted};
 use memory::RunState;
 
 pub mod fields;
@@ -44,26 +43,6 @@ pub fn get(nodes: &[u32], spp: u32) -> SPPnode
         x10: x10,
         x11: x11,
     }
-}
-
-// Whether the nodes are (a, z, z, a) and (b, z, z, b).
-pub fn lifted(p: SPPnode, q: SPPnode) -> bool
-    ensures yes { λ r. ⌜ (r ≡ true → Lifted (p .x00 ∷ p .x01 ∷ p .x10 ∷ p .x11 ∷ []) (q .x00 ∷ q .x01 ∷ q .x10 ∷ q .x11 ∷ [])) ⌝ }
-    ensures no { λ r. ⌜ (r ≡ false → Lifted (p .x00 ∷ p .x01 ∷ p .x10 ∷ p .x11 ∷ []) (q .x00 ∷ q .x01 ∷ q .x10 ∷ q .x11 ∷ []) → ⊥) ⌝ }
-{
-    if p.x11 != p.x00 {
-        return false;
-    }
-    if q.x11 != q.x00 {
-        return false;
-    }
-    if p.x01 != q.x01 {
-        return false;
-    }
-    if p.x10 != q.x01 {
-        return false;
-    }
-    q.x10 == q.x01
 }
 
 // The node held, else a new one.
@@ -145,6 +124,34 @@ pub fn top_at_depth(nodes: &mut [u32], work: &mut [u32], s: RunState, level: u8)
     constant(nodes, work, s, level, 1)
 }
 
+// The union of two relations where no shortcut answers. Of nodes (a, z, z, a) and (b, z, z, b) one union of children is left.
+fn union_node(
+    nodes: &mut [u32],
+    work: &mut [u32],
+    s: RunState,
+    level: u8,
+    x: u32,
+    y: u32,
+) -> RunState
+    ensures { λ r. ⌜ Performs rel (node2 (union-op rel) level x y) s (now (nodes .entry)) (now (nodes .exit)) (now (work .entry)) (now (work .exit)) r ⌝ }
+{
+    if level == 0 {
+        return s;
+    }
+    let p = get(nodes, x);
+    let q = get(nodes, y);
+    let below = level - 1;
+    if crate::shortcuts::lifted(p, q) {
+        let r = union(nodes, work, s, below, p.x00, q.x00);
+        return mk(nodes, work, r, r.h, q.x01, q.x01, r.h);
+    }
+    let r00 = union(nodes, work, s, below, p.x00, q.x00);
+    let r01 = union(nodes, work, r00, below, p.x01, q.x01);
+    let r10 = union(nodes, work, r01, below, p.x10, q.x10);
+    let r11 = union(nodes, work, r10, below, p.x11, q.x11);
+    mk(nodes, work, r11, r00.h, r01.h, r10.h, r11.h)
+}
+
 pub fn union(
     nodes: &mut [u32],
     work: &mut [u32],
@@ -182,17 +189,7 @@ pub fn union(
     match found {
         memory::Lookup::Answer(h) => memory::insert::with_handle(t, h),
         memory::Lookup::Operands(x, y) => {
-            if level == 0 {
-                return t;
-            }
-            let p = get(nodes, x);
-            let q = get(nodes, y);
-            let below = level - 1;
-            let r00 = union(nodes, work, t, below, p.x00, q.x00);
-            let r01 = union(nodes, work, r00, below, p.x01, q.x01);
-            let r10 = union(nodes, work, r01, below, p.x10, q.x10);
-            let r11 = union(nodes, work, r10, below, p.x11, q.x11);
-            let r = mk(nodes, work, r11, r00.h, r01.h, r10.h, r11.h);
+            let r = union_node(nodes, work, t, level, x, y);
             memory::memo::remember(work, r, memory::memo::UNION, level, x, y)
         }
     }

@@ -1,6 +1,7 @@
-// What shortcuts and the memo know of the operations on two relations, before their children are looked at.
+// What shortcuts and the memo know of the operations on two relations, before their children are looked at; and the nodes of which one call is left.
 ghost use mathlib.Core.Path.{_≡_};
-ghost use mathlib.Core.List.{List};
+ghost use mathlib.Core.List.{List, [], _∷_};
+ghost use mathlib.Core.Bool.{true, false};
 ghost use Prim.Native.Nat.{ℕ, _<_};
 ghost use Rattle.model.specs.Store.{rel};
 ghost use Rattle.model.specs.Programs.{Prog, less, ask};
@@ -8,6 +9,7 @@ ghost use Rattle.model.specs.Recursion.{node2};
 ghost use Rattle.model.specs.Operations.{complement, xor-op, xor-tests, difference-op};
 ghost use Rattle.memory.specs.Performing.{LooksUp, KnowsProperties};
 ghost use Rattle.memory.specs.Memo.{memo-program, op-limit};
+ghost use Rattle.relations.specs.Shapes.{Lifted};
 ghost use Rattle.relations.specs.Shortcuts.{TakesShortcut, shortcut-of, lattice-tests, difference-tests};
 
 // What the memo holds on an operation on a and b, the lesser first.
@@ -106,4 +108,24 @@ pub(crate) fn difference_tests(
         return crate::Shortcut::Delegate(b);
     }
     shortcut_of(memory::memo::recall(work, memory::memo::DIFFERENCE, level, a, b))
+}
+
+// Whether the nodes are (a, z, z, a) and (b, z, z, b).
+pub fn lifted(p: crate::SPPnode, q: crate::SPPnode) -> bool
+    ensures yes { λ r. ⌜ (r ≡ true → Lifted (p .x00 ∷ p .x01 ∷ p .x10 ∷ p .x11 ∷ []) (q .x00 ∷ q .x01 ∷ q .x10 ∷ q .x11 ∷ [])) ⌝ }
+    ensures no { λ r. ⌜ (r ≡ false → Lifted (p .x00 ∷ p .x01 ∷ p .x10 ∷ p .x11 ∷ []) (q .x00 ∷ q .x01 ∷ q .x10 ∷ q .x11 ∷ []) → ⊥) ⌝ }
+{
+    if p.x11 != p.x00 {
+        return false;
+    }
+    if q.x11 != q.x00 {
+        return false;
+    }
+    if p.x01 != q.x01 {
+        return false;
+    }
+    if p.x10 != q.x01 {
+        return false;
+    }
+    q.x10 == q.x01
 }

@@ -28,7 +28,7 @@ use Rattle.memory.proofs.property_words.relation_properties.Reads as relation-p
 use Rattle.relation_products.proofs.sequence_tests.Reads as sequence-tests-reads
 use Rattle.relation_products.proofs.sums.Reads as sums-reads
 use Rattle.relations.proofs.get.Reads as get-reads
-use Rattle.relations.proofs.lifted.Reads as lifted-reads
+use Rattle.relations.proofs.shortcuts.lifted.Reads as lifted-reads
 use Rattle.relations.proofs.mk.Reads as mk-reads
 use Rattle.relation_products.proofs.+matrix+sequence+sequence_node.{statement}
 use Rattle.relation_products.proofs.+matrix+sequence+sequence_node.Tie.{close}

@@ -5,8 +5,8 @@ use Prim.Native.Nat.{ℕ}
 use borrow.Author.Tests.{eqb-true, eqb-false}
 use Rattle.memory.proofs.Steps.{false≢true}
 use Rattle.relations.specs.Shapes.{Lifted}
-use Rattle.relations.proofs.lifted.Statement.{statement}
-use Rattle.relations.proofs.lifted.Tie as tie
+use Rattle.relations.proofs.shortcuts.lifted.Statement.{statement}
+use Rattle.relations.proofs.shortcuts.lifted.Tie as tie
 
 module _ (a b c d e f g h : ℕ) where
   abbrev Alike : Type 0
