@@ -12,18 +12,11 @@ use Rattle.model.specs.Programs.{ran, run}
 use Rattle.model.specs.Safety.{Settled}
 use Rattle.model.proofs.Extends.{ext-refl}
 use Rattle.memory.specs.Memo.{memo-program, op-limit}
-use Rattle.memory.specs.Working.{memo-size, operand-limit, entry-result, Entry, Remembers}
+use Rattle.memory.specs.Working.{memo-size, operand-limit, entry-result, first-number, key-number, Entry, Remembers}
 use Rattle.memory.specs.Performing.{Recalls, Says, KeepsEntry}
 use Rattle.memory.specs.declared.Lookup.the-variants.{Answer, Operands}
 
--- the two numbers of an entry, without and with the result in the second
-abbrev pub first-number : ℕ → ℕ → ℕ → ℕ
-first-number op a b = op % 16 * 268435456 + a * 16384 + b
-
-abbrev pub key-number : ℕ → ℕ → ℕ
-key-number op l = l * 2048 + op / 16
-
--- what such numbers say
+-- what the two numbers of an entry say
 says : (x y op l a b : ℕ) → op < op-limit → a < operand-limit → b < operand-limit → x ≡ first-number op a b → y / operand-limit ≡ key-number op l
     → Says x y op l a b (entry-result y)
 says x y op l a b o i j e f = record {

@@ -107,6 +107,17 @@ entry-right x = x % operand-limit
 abbrev pub entry-result : ℕ → ℕ
 entry-result y = y % operand-limit
 
+-- the first number of an operation's entry, and its second without the result
+abbrev pub first-number : ℕ → ℕ → ℕ → ℕ
+first-number op a b = op % 16 * 268435456 + a * operand-limit + b
+
+abbrev pub key-number : ℕ → ℕ → ℕ
+key-number op l = l * 2048 + op / 16
+
+-- an operation may stand in so many entries
+abbrev pub window-size : ℕ
+window-size = 12
+
 -- an entry's program is settled with its result
 unfoldable pub Entry : ℕ → ℕ → Store → Type 0
 Entry x y S = 0 < y → Settled (memo-program (entry-op x y) (entry-level y) (entry-left x) (entry-right x)) S (entry-result y)

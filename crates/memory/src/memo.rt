@@ -7,7 +7,7 @@ ghost use lib.ListN.{length, getD};
 ghost use Rattle.model.specs.Store.{Store};
 ghost use Rattle.model.specs.Programs.{run, ran};
 ghost use Rattle.memory.specs.Memo.{op-limit, memo-program};
-ghost use Rattle.memory.specs.Working.{operand-limit, Remembers};
+ghost use Rattle.memory.specs.Working.{operand-limit, first-number, key-number, window-size, Remembers};
 ghost use Rattle.memory.specs.Performing.{Recalls, KeepsEntry, Remembered};
 
 // THE OPERATIONS' NUMBERS, by which the memo tells them apart; specs/Memo has the same names and says which program each number is.
@@ -69,10 +69,10 @@ const OPERANDS: u32 = 16384;
 
 const LEVELS: u8 = 128;
 
-// The entries of a window, and their numbers.
+// The entries of a window, specs/Working, and their numbers.
 const WINDOW: usize = 12;
 
-const WINDOW_NUMBERS: usize = 24;
+const WINDOW_NUMBERS: usize = 2 * WINDOW;
 
 // A memo of at most so many entries is full on common texts; there an operation has the first entry of its window alone.
 const FEW: usize = 2048;
@@ -91,7 +91,7 @@ fn fits(a: u32, b: u32) -> bool
 // The first number of an operation's entry.
 fn first_number(op: u32, a: u32, b: u32) -> u32
     requires { ⌜ (a < operand-limit) × (b < operand-limit) ⌝ }
-    ensures { λ r. ⌜ r ≡ op % 16 * 268435456 + a * 16384 + b ⌝ }
+    ensures { λ r. ⌜ r ≡ first-number op a b ⌝ }
 {
     op % 16 * 268435456 + a * OPERANDS + b
 }
@@ -99,15 +99,15 @@ fn first_number(op: u32, a: u32, b: u32) -> u32
 // The second number of its entry without the result.
 fn key(op: u32, level: u8) -> u32
     requires { ⌜ op < op-limit ⌝ }
-    ensures { λ r. ⌜ r ≡ level * 2048 + op / 16 ⌝ }
+    ensures { λ r. ⌜ r ≡ key-number op level ⌝ }
 {
     level as u32 * 2048 + op / 16
 }
 
 // Where the window of an operation begins, in a memo of so many entries.
 fn window(entries: usize, first: u32, key: u32) -> usize
-    requires { ⌜ (12 ≤ entries) × (entries < 4294967296) ⌝ }
-    ensures { λ r. ⌜ (r % 2 ≡ 0) × (r + 24 ≤ 2 * entries) ⌝ }
+    requires { ⌜ (window-size ≤ entries) × (entries < 4294967296) ⌝ }
+    ensures { λ r. ⌜ (r % 2 ≡ 0) × (r + 2 * window-size ≤ 2 * entries) ⌝ }
 {
     let h = first as u64 * 2654435769 + key as u64 * 1640531527;
     let n = (entries - (WINDOW - 1)) as u64;
@@ -129,11 +129,11 @@ fn entry(work: &[u32], i: usize, first: u32, key: u32) -> u32
     v
 }
 
-// The entry of the window from `at` on that is the operation's, else one of the lowest level, of which one that is none is lower than all. The entry at `at` is not
-// the operation's.
+// The entry of the window from `at` on that is the operation's, else one of the lowest level; an entry that is none is lower than all. The entry at
+// `at` is not the operation's.
 fn place(work: &[u32], at: usize, first: u32, key: u32) -> usize
-    requires { ⌜ at + 24 ≤ length (now work) ⌝ }
-    ensures { λ r. ⌜ (r % 2 ≡ at % 2) × (at ≤ r) × (r + 2 ≤ at + 24) ⌝ }
+    requires { ⌜ at + 2 * window-size ≤ length (now work) ⌝ }
+    ensures { λ r. ⌜ (r % 2 ≡ at % 2) × (at ≤ r) × (r + 2 ≤ at + 2 * window-size) ⌝ }
 {
     let mut lowest = at;
     let mut least = work[at + 1];
@@ -201,7 +201,7 @@ pub fn recall(work: &[u32], op: u32, level: u8, a: u32, b: u32) -> crate::Lookup
 
 // The entry that an operation's answer is to have.
 fn choose(work: &[u32], entries: usize, first: u32, key: u32) -> usize
-    requires { ⌜ (12 ≤ entries) × (entries < 4294967296) × (2 * entries ≤ length (now work)) ⌝ }
+    requires { ⌜ (window-size ≤ entries) × (entries < 4294967296) × (2 * entries ≤ length (now work)) ⌝ }
     ensures { λ r. ⌜ (r % 2 ≡ 0) × (r + 2 ≤ 2 * entries) ⌝ }
 {
     let i = window(entries, first, key);

@@ -5,6 +5,7 @@ use native.Mathlib.Omega.{arith}
 use lib.ListN.{length-set}
 use borrow.Author.Needs.{needs}
 use borrow.Author.Tests.{not-false}
+use Rattle.memory.specs.Working.{operand-limit}
 use Rattle.memory.proofs.Entries.{keeps-none, keeps-wrote}
 use Rattle.memory.proofs.memo.keep.Statement.{statement}
 use Rattle.memory.proofs.memo.keep.Tie as tie
@@ -25,8 +26,8 @@ returns-6 c =
     let room = after-fits2 .fits2 .ensures .0 (not-false _ (at-if3 .if3 .left)) in
     let i = c .choose .ensures in
     keeps-wrote (entry .args .work .now) (c .choose .result) _ _ (entry .args .op) (entry .args .level) (entry .args .a) (entry .args .b) (entry .args .h)
-    (entry .pre) (room .0) (room .1)
-    (omega (arith, at-if5 .if5 .left)) (after-first-number .first-number .ensures) (ap (λ z. z * 16384 + entry .args .h) (c .before .before .key .ensures))
+    (entry .pre) (room .0) (room .1) (omega (arith, at-if5 .if5 .left)) (after-first-number .first-number .ensures)
+    (ap (λ z. z * operand-limit + entry .args .h) (c .before .before .key .ensures))
     (i .0) (omega (arith, i .1, after-memo-size .memo-size .ensures .0))
     (omega (arith, after-memo-size .memo-size .ensures .1, after-memo-size .memo-size .ensures .0))
 

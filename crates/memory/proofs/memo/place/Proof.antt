@@ -1,24 +1,25 @@
 -- `memory::memo::place` meets its contract. The loop's invariant: i is an even number behind the window's begin, and the lowest entry so far is of the window.
 use mathlib.Core.Path.{_≡_, sym, subst}
 use mathlib.Core.Logic.{⊎-elim}
-use Prim.Native.Nat.{ℕ, _+_, _-_, _%_, _<_, _≤_}
+use Prim.Native.Nat.{ℕ, _+_, _-_, _*_, _%_, _<_, _≤_}
 use native.Mathlib.Omega.{arith}
 use borrow.Author.Needs.{needs}
+use Rattle.memory.specs.Working.{window-size}
 use Rattle.memory.proofs.memo.place.Statement.{statement}
 use Rattle.memory.proofs.memo.place.Tie as tie
 
 -- an entry of the window from `at` on begins at r
 abbrev Begins : ℕ → ℕ → Type 0
-Begins at r = (r % 2 ≡ at % 2) × (at ≤ r) × (r + 2 ≤ at + 24)
+Begins at r = (r % 2 ≡ at % 2) × (at ≤ r) × (r + 2 ≤ at + 2 * window-size)
 
-begins : (at r e : ℕ) → e ≡ at + 24 → r % 2 ≡ at % 2 → at ≤ r → r < e → Begins at r
+begins : (at r e : ℕ) → e ≡ at + 2 * window-size → r % 2 ≡ at % 2 → at ≤ r → r < e → Begins at r
 begins at r e a b c d = (b, c, omega arith)
 
 even-step : (at i : ℕ) → i % 2 ≡ at % 2 → (i + 2) % 2 ≡ at % 2
 even-step at i a = omega arith
 
 abbrev Inv-loop : tie.InvT-loop
-Inv-loop work at first key lowest₀ least₀ i₀ e lowest least i = (e ≡ at + 24) × (i % 2 ≡ at % 2) × (at ≤ i) × Begins at lowest
+Inv-loop work at first key lowest₀ least₀ i₀ e lowest least i = (e ≡ at + 2 * window-size) × (i % 2 ≡ at % 2) × (at ≤ i) × Begins at lowest
 
 abbrev μ-loop : tie.MeasureT-loop
 μ-loop work at first key lowest₀ least₀ i₀ e lowest least i = e - i
