@@ -16,7 +16,7 @@
  * Working memory saves time, of which no bound is proved: without it, or with little, a call may take time exponential
  * in the level. From 12,288 numbers on the check that each call makes of its store is linear in the nodes held.
  * PACKET_STORE_WORK_LEN numbers, 256 KiB, are recommended for any store; where strangers write the texts lend four times
- * as many: the slowest text made takes half a minute with 256 KiB and under a second with 1 MiB.
+ * as many: the slowest text made takes eleven seconds with 256 KiB and a tenth of a second with 1 MiB.
  *
  * Places are the whole nodes that fit, at most 4,096 of each kind: PACKET_STORE_RELATIONS_LEN(4096) numbers of relations
  * and PACKET_STORE_SETS_LEN(4096) of sets are never exceeded in use. Numbers beyond the last place are never touched.
@@ -62,7 +62,7 @@ extern "C" {
 #define PACKET_STORE_RELATIONS_LEN(places) (PACKET_STORE_RELATION_HEAD + 4 * (places))
 #define PACKET_STORE_SETS_LEN(places) (PACKET_STORE_SET_HEAD + 2 * (places))
 
-/* How many numbers of working memory are recommended, for any store: 256 KiB. */
+/* How many numbers of working memory are recommended, for any store: 256 KiB; four times as many for texts by strangers. */
 #define PACKET_STORE_WORK_LEN 65536
 
 /* The numbers of the refusals. */

@@ -12,7 +12,8 @@ pub const SET_HEAD: usize = 1;
 /// The place of its node count.
 pub const SET_COUNT: usize = 0;
 
-/// The recommended working memory, for any store: 256 KiB.
+/// The recommended working memory, for any store: 256 KiB. Lend four times as much where strangers write the
+/// texts.
 pub const WORK_LEN: usize = 65_536;
 
 /// How many numbers `relations` needs for this many places; the next node begins there.

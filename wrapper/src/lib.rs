@@ -3,8 +3,9 @@
 //!
 //! Every function is lent `relations`, `sets` and `work`, slices of `u32` of any length. The first two hold
 //! the store, each node in a place; document 01 and include/packet_store.h give their layout. `work` is
-//! working memory, and no answer depends on it; without it a call may take time exponential in the level,
-//! and [`WORK_LEN`] numbers are recommended for any store.
+//! working memory, and no answer depends on it. It saves time, of which no bound is proved: without it a
+//! call may take time exponential in the level. [`WORK_LEN`] numbers are recommended for any store, and
+//! four times as many where strangers write the texts.
 //!
 //! A refused call changes neither `relations` nor `sets`; every call leaves `work` all zeros. Where several
 //! refusals apply, the first in the function's list is given.

@@ -1,4 +1,4 @@
--- `four::chase` meets its contract. The loop's invariant: where the index is right, v is on the chain of the bucket and no node from v on has these
+-- `relation_node::chase` meets its contract. The loop's invariant: where the index is right, v is on the chain of the bucket and no node from v on has these
 -- numbers. The measure is v: a link that does not lead down ends the search.
 use mathlib.Core.List.{[], _∷_}
 use native.Mathlib.Omega.{arith}

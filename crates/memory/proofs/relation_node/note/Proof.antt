@@ -1,4 +1,4 @@
--- `four::note` meets its contract: it writes the word that `gather_relation` gives.
+-- `relation_node::note` meets its contract: it writes the word that `gather_relation` gives.
 use mathlib.Core.Path.{refl}
 use borrow.Author.Needs.{needs}
 use Rattle.model.specs.Store.{rel}

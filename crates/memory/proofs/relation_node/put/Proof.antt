@@ -1,4 +1,4 @@
--- `four::put` meets its contract: four numbers written side by side.
+-- `relation_node::put` meets its contract: four numbers written side by side.
 use native.Mathlib.Omega.{arith}
 use lib.ListN.{length-set}
 use borrow.Author.Needs.{needs}

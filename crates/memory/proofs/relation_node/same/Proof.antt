@@ -1,4 +1,4 @@
--- `four::same` meets its contract: the node has these numbers where each of the four is the same.
+-- `relation_node::same` meets its contract: the node has these numbers where each of the four is the same.
 use mathlib.Core.Path.{_≡_, sym, _∙_}
 use mathlib.Core.List.{List, [], _∷_}
 use Prim.Native.Nat.{ℕ, _+_, _*_, _≤_}
