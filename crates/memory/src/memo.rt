@@ -64,7 +64,7 @@ pub const HAS_PATH: u32 = 1024;
 // Numbers of operations are below this, so that an entry has room for one.
 pub const OPERATIONS: u32 = 32768;
 
-// Operands and results in an entry are below this, specs/Working; levels below that.
+// What an entry has room for, specs/Working: operands and results below the first number, levels below the second.
 const OPERANDS: u32 = 16384;
 
 const LEVELS: u8 = 128;
@@ -131,7 +131,7 @@ fn entry(work: &[u32], i: usize, first: u32, key: u32) -> u32
 
 // The entry of the window from `at` on that is the operation's, else one of the lowest level; an entry that is none is lower than all. The entry at
 // `at` is not the operation's.
-fn place(work: &[u32], at: usize, first: u32, key: u32) -> usize
+fn slot(work: &[u32], at: usize, first: u32, key: u32) -> usize
     requires { ⌜ at + 2 * window-size ≤ length (now work) ⌝ }
     ensures { λ r. ⌜ (r % 2 ≡ at % 2) × (at ≤ r) × (r + 2 ≤ at + 2 * window-size) ⌝ }
 {
@@ -183,7 +183,7 @@ fn known(work: &[u32], op: u32, level: u8, a: u32, b: u32) -> u32
     if entries <= FEW {
         return 0;
     }
-    let j = place(work, i, first, key);
+    let j = slot(work, i, first, key);
     entry(work, j, first, key)
 }
 
@@ -211,7 +211,7 @@ fn choose(work: &[u32], entries: usize, first: u32, key: u32) -> usize
     if entries <= FEW {
         return i;
     }
-    place(work, i, first, key)
+    slot(work, i, first, key)
 }
 
 // Keeps what an operation gave, where an entry has room for it.

@@ -17,12 +17,12 @@ use Rattle.model.proofs.Bools.{no-true}
 use Rattle.model.proofs.FieldsFromIdentity.{fields-from-identity}
 use Rattle.model.proofs.Levels.{small, held-at}
 use Rattle.memory.specs.Noting.{KnownWord}
-use Rattle.memory.specs.Performing.{Any, Performs, ReadsChildren}
+use Rattle.memory.specs.Performing.{Performs, ReadsChildren}
 use Rattle.memory.specs.Working.{properties-in, Has, Known}
 use Rattle.memory.specs.declared.Properties.{Properties}
 use Rattle.memory.specs.declared.RunState.{RunState}
 use Rattle.memory.proofs.Rows.{plain-length}
-use Rattle.memory.proofs.Steps.{begin, by, looked, performs-left}
+use Rattle.memory.proofs.Steps.{begin, by, looked, performs-left, reduced}
 use Rattle.relations.specs.Fields.{KnowsIdentity}
 
 -- WORDS
@@ -77,7 +77,7 @@ identity-next at (suc v) one h = let e : v ≡ suc v - 1 = omega arith in
 module _ {s r : RunState} {m m′ w w′ : List ℕ} where
   pub performs-looked : {p : Prog} {f : List ℕ → Prog} {h : ℕ} {x : List ℕ} → p ≡ look rel h f → ReadsChildren rel m h x → Performs rel (f x) s m m′ w w′ r
       → Performs rel p s m m′ w w′ r
-  performs-looked e X d = performs-left (λ B c. looked {Q = Any} (by begin e) X .left B c (s .n)) d
+  performs-looked e X = reduced (looked (by begin e) X)
 
   pub performs-from-identity : (at : ℕ → ℕ → List ℕ) (v l one : ℕ) → KnowsIdentity w (s .n) l one → (one ≡ 0 → ⊥) → v < l
       → Performs rel (from-identity at v one) s m m′ w w′ r → Performs rel (each-field at v l 1 0) s m m′ w w′ r

@@ -8,8 +8,8 @@ use Rattle.memory.proofs.memo.choose.Tie as tie
 returns-3 : tie.Need-returns-3
 returns-3 c =
     let after-window = c .before .before .before .before in (
-      c .place .ensures .0 ∙ after-window .window .ensures .0,
-      omega (arith, c .place .ensures .2, after-window .window .ensures .1),
+      c .slot .ensures .0 ∙ after-window .window .ensures .0,
+      omega (arith, c .slot .ensures .2, after-window .window .ensures .1),
     )
 
 pub choose-spec : {M : Type 1} → statement M

@@ -36,12 +36,12 @@ returns-7 c =
     let after-memo-size = after-fits2 .before .before .before in
     let entry = after-memo-size .before .before in
     let i = after-window .window .result in
-    let j = c .before .place .result in
+    let j = c .before .slot .result in
     let room = after-fits2 .fits2 .ensures .0 (not-false _ (at-if3 .if3 .left)) in
     λ S R p. let e = c .entry2 .ensures p in
     hit (entry .args .work .now) S j (entry .args .op) (entry .args .level) (entry .args .a) (entry .args .b) _ (entry .pre) (room .0) (room .1)
-    (c .before .place .ensures .0 ∙ after-window .window .ensures .0)
-    (omega (arith, c .before .place .ensures .2, after-window .window .ensures .1, after-memo-size .memo-size .ensures .0))
+    (c .before .slot .ensures .0 ∙ after-window .window .ensures .0)
+    (omega (arith, c .before .slot .ensures .2, after-window .window .ensures .1, after-memo-size .memo-size .ensures .0))
     (e .0 ∙ after-first-number .first-number .ensures) (e .1) (e .2 ∙ after-key .key .ensures) p R
 
 pub known-spec : {M : Type 1} → statement M

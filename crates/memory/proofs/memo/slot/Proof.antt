@@ -1,12 +1,12 @@
--- `memory::memo::place` meets its contract. The loop's invariant: i is an even number behind the window's begin, and the lowest entry so far is of the window.
+-- `memory::memo::slot` meets its contract. The loop's invariant: i is an even number behind the window's begin, and the lowest entry so far is of the window.
 use mathlib.Core.Path.{_≡_, sym, subst}
 use mathlib.Core.Logic.{⊎-elim}
 use Prim.Native.Nat.{ℕ, _+_, _-_, _*_, _%_, _<_, _≤_}
 use native.Mathlib.Omega.{arith}
 use borrow.Author.Needs.{needs}
 use Rattle.memory.specs.Working.{window-size}
-use Rattle.memory.proofs.memo.place.Statement.{statement}
-use Rattle.memory.proofs.memo.place.Tie as tie
+use Rattle.memory.proofs.memo.slot.Statement.{statement}
+use Rattle.memory.proofs.memo.slot.Tie as tie
 
 -- an entry of the window from `at` on begins at r
 abbrev Begins : ℕ → ℕ → Type 0
@@ -51,8 +51,8 @@ loop-again c =
 returns-2 : tie.Need-returns-2 Inv-loop μ-loop
 returns-2 c = c .before .loop .inv .3
 
-pub place-spec : {M : Type 1} → statement M
-place-spec =
+pub slot-spec : {M : Type 1} → statement M
+slot-spec =
     tie.close
     (tie.spec
     Inv-loop
