@@ -3,6 +3,8 @@
 mod buddy;
 mod call;
 mod calls;
+mod first;
+mod first_hard;
 mod lister;
 mod policies;
 mod rounds;
@@ -27,6 +29,12 @@ const LARGE: Draw = Draw { fields: 32, count: 200, bytes: 1000, nodes: 1000 };
 const SMALL: [u32; 4] = [2, 4, 6, 8];
 const SMALL_WORKS: [usize; 3] = [0, 64 << 10, 256 << 10];
 
+/// How long the tables of k = 32 are at least through which first pairs are sought.
+const FIRST_BYTES: [usize; 2] = [300, 1000];
+/// The fields at which first pairs are sought without working memory too.
+const FIRST_SMALL: [u32; 3] = [4, 6, 8];
+const FIRST_SMALL_WORKS: [usize; 4] = [0, 64 << 10, 256 << 10, 1 << 20];
+
 const CALL_WORKS: [usize; 2] = [64 << 10, 256 << 10];
 
 fn main() -> ExitCode {
@@ -40,6 +48,8 @@ fn main() -> ExitCode {
         ["slow", case, kib] => slow::once(case, (number(kib) as usize) << 10),
         ["small", seed] => small(number(seed)),
         ["calls", seed] => calls(number(seed)),
+        ["first", seed] => first(number(seed)),
+        ["first", case, call, kib] => first_hard::once(case, call, (number(kib) as usize) << 10),
         ["stack", seed] => stack(number(seed)),
         ["lister", seed] => lister(number(seed)),
         ["texts", seed, count] => texts(number(seed), number(count) as usize),
@@ -47,7 +57,7 @@ fn main() -> ExitCode {
         ["once", "rust"] => policies::once(Side::Rust, LARGE.fields),
         _ => {
             eprintln!(
-                "usage: bench [policies SEED | worst | slow [CASE KIB] | small SEED | calls SEED | stack SEED | lister SEED \
+                "usage: bench [policies SEED | worst | slow [CASE KIB] | small SEED | calls SEED | first SEED | first CASE CALL KIB | stack SEED | lister SEED \
                  | texts SEED COUNT | once (ours | rust)]"
             );
             return ExitCode::from(2);
@@ -67,6 +77,7 @@ fn tables(seed: u64) {
     slow();
     small(seed);
     calls(seed);
+    first(seed);
     stack(seed);
     lister(seed);
 }
@@ -94,6 +105,17 @@ fn calls(seed: u64) {
     for work in CALL_WORKS {
         println!("{}", calls::table(seed, work));
     }
+}
+
+fn first(seed: u64) {
+    for bytes in FIRST_BYTES {
+        println!("{}", first::table(seed, Draw { count: 40, bytes, ..LARGE }, &rows::WORKS));
+    }
+    for fields in FIRST_SMALL {
+        let what = Draw { fields, count: 40, bytes: 100, nodes: 0 };
+        println!("{}", first::table(seed, what, &FIRST_SMALL_WORKS));
+    }
+    println!("{}", first_hard::table());
 }
 
 fn stack(seed: u64) {

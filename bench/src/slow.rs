@@ -17,7 +17,7 @@ const ROUNDS: usize = 41;
 /// No round begins after this time.
 const ENOUGH: Duration = Duration::from_secs(1);
 /// A process is ended after this time.
-const LIMIT: Duration = Duration::from_secs(5);
+pub const LIMIT: Duration = Duration::from_secs(5);
 
 /// A call and the store that it is made on.
 struct Case {
@@ -33,7 +33,7 @@ pub fn table() -> String {
         let rust = least(|| call.rust(&lent).1);
         let mut cells = WORKS.map(|_| String::from("-"));
         for (cell, work) in cells.iter_mut().zip(WORKS).rev() {
-            let Some(ours) = in_time(&call.name, work) else {
+            let Some(ours) = in_time(&["slow", &call.name, &(work >> 10).to_string()]) else {
                 *cell = format!("over {} s", LIMIT.as_secs());
                 break;
             };
@@ -65,17 +65,17 @@ fn cases() -> Vec<Case> {
 }
 
 /// The least milliseconds of some rounds.
-fn least(mut round: impl FnMut() -> Duration) -> f64 {
+pub fn least(mut round: impl FnMut() -> Duration) -> f64 {
     let start = Instant::now();
     let rounds = (0..ROUNDS).take_while(|_| start.elapsed() < ENOUGH).map(|_| round());
     rounds.min().expect("there is a first round").as_secs_f64() * 1e3
 }
 
-/// What `once` prints in another process, if it ends in time.
-fn in_time(name: &str, work: usize) -> Option<f64> {
+/// The number that a command of the benchmark prints in another process, if it ends in time.
+pub fn in_time(words: &[&str]) -> Option<f64> {
     let program = env::current_exe().expect("the benchmark is there");
     let mut command = Command::new(program);
-    command.args(["slow", name, &(work >> 10).to_string()]).stdout(Stdio::piped());
+    command.args(words).stdout(Stdio::piped());
     let mut process = command.spawn().expect("the benchmark starts");
     let start = Instant::now();
     while process.try_wait().expect("it was started").is_none() {
@@ -87,7 +87,7 @@ fn in_time(name: &str, work: usize) -> Option<f64> {
         sleep(Duration::from_millis(10));
     }
     let output = process.wait_with_output().expect("it has ended");
-    assert!(output.status.success(), "{name} fails");
+    assert!(output.status.success(), "{words:?} fails");
     let printed = String::from_utf8(output.stdout).expect("a number");
     Some(printed.trim().parse().expect("a number"))
 }

@@ -58,7 +58,7 @@ pub fn calls() -> (Lent, Vec<Call>) {
 }
 
 /// The handle of the numbers with this last digit that the divisor divides; the base is how many children a node has.
-fn root<const BASE: usize>(
+pub fn root<const BASE: usize>(
     divisor: usize,
     last: usize,
     mut mk: impl FnMut([u32; BASE]) -> u32,

@@ -2,6 +2,7 @@
 
 use crate::policies::{draw, Draw};
 use crate::sides::{Lent, MOST_PLACES};
+use packet_store as library;
 use std::ffi::{c_int, c_void};
 
 const STACK: usize = 1 << 20;
@@ -17,7 +18,7 @@ fn deep() -> String {
     text
 }
 
-/// The bytes of stack for `new`, the policies of the first table and the deep one.
+/// The bytes of stack for `new`, the policies of the first table and the deep one, and for the first pairs of those of the first table.
 pub fn table(seed: u64, what: Draw) -> String {
     let mut lent = Lent::new(MOST_PLACES, WORK);
     let idle = used(&mut || ());
@@ -29,12 +30,26 @@ pub fn table(seed: u64, what: Draw) -> String {
     };
     let drawn: Vec<String> = draw(seed, what).into_iter().map(|drawn| drawn.text).collect();
     let mut table = format!("k = {}: bytes of stack\n", what.fields);
-    for (title, texts) in
-        [("1", vec!["1".into()]), ("drawn policies", drawn), ("nested 32 deep", vec![deep()])]
-    {
+    for (title, texts) in [
+        ("1", vec!["1".into()]),
+        ("drawn policies", drawn.clone()),
+        ("nested 32 deep", vec![deep()]),
+    ] {
         table += &format!("{title:<20}{:>10}\n", largest(&texts).expect("there are texts"));
     }
+    let pairs = drawn.iter().map(|text| first_pair(&mut lent, what.fields, text) - idle);
+    table += &format!("{:<20}{:>10}\n", "first pairs", pairs.max().expect("there are texts"));
     table
+}
+
+/// The bytes for the first pair of a policy, from all packets to all.
+fn first_pair(lent: &mut Lent, fields: u32, text: &str) -> usize {
+    let a = lent.run(fields, text).expect("fits");
+    let Lent { relations, sets, work } = lent;
+    let all = library::set_one(relations, sets, work).expect("held");
+    used(&mut || {
+        assert!(library::relation_first_path(relations, sets, work, all, a, all).is_ok());
+    })
 }
 
 /// How much of its stack a thread uses that does this.

@@ -31,6 +31,8 @@ pub enum Answer {
     YesNo(bool),
     /// The children of a node: two of a set, four of a relation.
     Children(Vec<u32>),
+    /// An input and an output, or none.
+    Pair(Option<(u32, u32)>),
     Refused(Refusal),
     /// A policy with a fault at this offset.
     RefusedAt(Fault, usize),
@@ -58,6 +60,8 @@ impl fmt::Display for Answer {
                 write!(f, "c")?;
                 children.iter().try_for_each(|child| write!(f, " {child}"))
             }
+            Answer::Pair(Some((input, output))) => write!(f, "p {input} {output}"),
+            Answer::Pair(None) => write!(f, "n"),
             Answer::Refused(refusal) => write!(f, "r {}", *refusal as u32),
             Answer::RefusedAt(fault, offset) => write!(f, "r {} {offset}", *fault as u32),
         }

@@ -4,6 +4,7 @@ pub mod answer;
 pub mod call;
 pub mod check;
 pub mod draw;
+mod first_path;
 pub mod operations;
 pub mod policy;
 pub mod random;

@@ -2,6 +2,7 @@
 //! A run assumes what `Store::call` has checked, for the reference panics otherwise.
 
 use crate::answer::Answer;
+use crate::first_path::first_path;
 use reference::sp::SP;
 use reference::spp::{SPPstore, SPP};
 
@@ -94,7 +95,7 @@ pub static RELATIONS: [Operation; 19] = [
 ];
 
 /// Operations on sets and relations together.
-pub static BETWEEN: [Operation; 9] = [
+pub static BETWEEN: [Operation; 10] = [
     op("fwd", &[Relation], |s, x| set(s.fwd(SPP(x[0])))),
     op("bwd", &[Relation], |s, x| set(s.bwd(SPP(x[0])))),
     op("ifwd", &[Set], |s, x| relation(s.ifwd(SP(x[0])))),
@@ -105,6 +106,9 @@ pub static BETWEEN: [Operation; 9] = [
     op("has_image", &[Set, Relation], |s, x| Answer::YesNo(s.has_image(SP(x[0]), SPP(x[1])))),
     op("has_path", &[Set, Relation, Set], |s, x| {
         Answer::YesNo(s.has_path(SP(x[0]), SPP(x[1]), SP(x[2])))
+    }),
+    op("first_path", &[Set, Relation, Set], |s, x| {
+        Answer::Pair(first_path(s, SP(x[0]), SPP(x[1]), SP(x[2])))
     }),
 ];
 

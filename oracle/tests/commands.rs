@@ -36,9 +36,9 @@ fn a_line_that_is_no_call_stops_the_replay() {
 }
 
 #[test]
-fn there_are_42_calls_with_new() {
+fn there_are_43_calls_with_new() {
     let names: HashSet<_> = operations::all().map(|operation| operation.name).collect();
-    assert_eq!(names.len() + 1, 42);
+    assert_eq!(names.len() + 1, 43);
 }
 
 #[test]
@@ -52,10 +52,10 @@ fn a_drawn_list_has_every_call_and_answer() {
     let list = drawn(3, 20_000, Part::All);
     assert!(list.iter().all(|line| line.parse::<Call>().unwrap().to_string() == *line));
     let first_word = |line: &String| line.split(' ').next().map(String::from);
-    assert_eq!(list.iter().filter_map(first_word).collect::<HashSet<_>>().len(), 42);
+    assert_eq!(list.iter().filter_map(first_word).collect::<HashSet<_>>().len(), 43);
     let answers = replayed(&list.join("\n"));
     assert!(answers.starts_with('o'));
-    for start in ["h ", "b 0 ", "b 1 ", "c ", "r 2 ", "r 3 ", "r 4 ", "r 5 ", "r 6 "] {
+    for start in ["h ", "b 0 ", "b 1 ", "c ", "p ", "n ", "r 2 ", "r 3 ", "r 4 ", "r 5 ", "r 6 "] {
         assert!(answers.lines().any(|line| line.starts_with(start)), "{start}");
     }
 }
@@ -79,6 +79,31 @@ fn a_part_draws_its_own_operations_only() {
 #[test]
 fn the_reference_means_what_document_01_says() {
     let mut table = vec![];
-    let agreed = check(&Effort { all_up_to: 256, random_lists: 50 }, &mut table).unwrap();
+    let agreed =
+        check(&Effort { all_up_to: 256, random_lists: 50, all_pairs_to: 1 }, &mut table).unwrap();
     assert!(agreed, "{}", String::from_utf8(table).unwrap());
+}
+
+#[test]
+fn a_pair_is_given_or_none() {
+    let list = "new 2 99 99\nrel.mk 2 4 2 2\nset.mk 3 2\nrel.mk 2 2 0 0\nfirst_path 5 3 5\nfirst_path 5 5 5\n\
+                first_path 7 5 5\nfirst_path 6 7 5\nfirst_path 0 1 1\nfirst_path 1 1 1\nfirst_path 99 1 5\n\
+                first_path 5 1 5\n";
+    let answers =
+        "o 6 2\nh 8 7 2\nh 7 7 3\nr 3 7 3\nn 7 3\np 0 0 7 3\np 0 0 7 3\np 2 0 7 3\nn 7 3\n\
+                   p 0 0 7 3\nr 2 7 3\nr 3 7 3\n";
+    assert_eq!(replayed(list), answers);
+}
+
+/// Document 02's order takes the whole input first: 00 to 10 comes before 01 to 00.
+#[test]
+fn the_whole_input_comes_before_the_output() {
+    let list =
+        "new 2 99 99\npolicy x0=0;x1=0;x0:=1+x0=0;x1=1;x1:=0\nset.test 0 0\nfirst_path 5 21 5\n\
+                first_path 5 21 7\nfirst_path 4 21 5\n";
+    let answers: Vec<String> = replayed(list).lines().map(String::from).collect();
+    assert!(answers[1].starts_with("h 21 ") && answers[2].starts_with("h 7 "));
+    assert!(answers[3].starts_with("p 0 2 "), "{}", answers[3]);
+    assert!(answers[4].starts_with("p 1 0 "), "{}", answers[4]);
+    assert!(answers[5].starts_with("n "), "{}", answers[5]);
 }

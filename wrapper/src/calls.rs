@@ -233,4 +233,29 @@ calls! {
     ///
     /// Refuses as [`relation_has_image`].
     relation_has_path(relations: &[u32], sets: &[u32], p, a, q) -> bool;
+
+    /// The first pair that the relation `a` relates from a packet of the set `p` to a packet of the set `q`: input and output.
+    ///
+    /// It is the first input that has such an output, inputs being compared field by field from field 0 on, 0 before 1; and of its
+    /// outputs in `q` the first in the same order. Packets are numbers as in [`relation_relates`]. There is none exactly where
+    /// [`relation_has_path`] gives `false`; at level 0 a pair is `(0, 0)`.
+    ///
+    /// Refuses as [`relation_has_image`].
+    ///
+    /// ```
+    /// use packet_store::{new, policy, relation_first_path, relations_len, set_one, set_test, sets_len, WORK_LEN};
+    /// let (relations, sets) = (&mut [0; relations_len(64)], &mut [0; sets_len(16)]);
+    /// let work = &mut vec![0; WORK_LEN];
+    /// new(relations, sets, work, 2)?;
+    /// // Packets 00 are sent to 10, packets 01 to 00.
+    /// let a = policy(relations, sets, work, b"x0=0;x1=0;x0:=1+x0=0;x1=1;x1:=0")?;
+    /// let all = set_one(relations, sets, work)?;
+    /// assert_eq!(relation_first_path(relations, sets, work, all, a, all)?, Some((0b00, 0b10)));
+    /// let low = set_test(relations, sets, work, 0, 0)?;
+    /// assert_eq!(relation_first_path(relations, sets, work, all, a, low)?, Some((0b01, 0b00)));
+    /// let high = set_test(relations, sets, work, 0, 1)?;
+    /// assert_eq!(relation_first_path(relations, sets, work, high, a, all)?, None);
+    /// # Ok::<(), packet_store::PolicyRefusal>(())
+    /// ```
+    relation_first_path(relations: &[u32], sets: &[u32], p, a, q) -> Option<(u32, u32)>;
 }

@@ -20,15 +20,18 @@ impl Lend for &mut [u32] {
     }
 }
 
-/// Declares the library's function of this name and calls it on the three memories and its own arguments; the answer is packed.
-/// An argument has its name, its type in C and its value.
+/// Declares the library's function of this name and calls it on the three memories and its own arguments; the answer is packed,
+/// a number or the type named last. An argument has its name, its type in C and its value.
 macro_rules! ask {
+    ($name:ident($($arguments:tt)*)) => {
+        $crate::lend::ask!($name($($arguments)*) -> u64)
+    };
     ($name:ident(
         $relations:ident: $relations_type:ty,
         $sets:ident: $sets_type:ty,
         $work:ident
         $(, $x:ident: $type:ty = $value:expr)*
-    )) => {{
+    ) -> $answer:ty) => {{
         extern "C" {
             #[link_name = concat!("packet_store_", stringify!($name))]
             fn exported(
@@ -39,7 +42,7 @@ macro_rules! ask {
                 work: *mut u32,
                 work_len: usize
                 $(, $x: $type)*
-            ) -> u64;
+            ) -> $answer;
         }
         let (relations_len, sets_len, work_len) = ($relations.len(), $sets.len(), $work.len());
         // SAFETY: each pointer comes from a slice of the length beside it, and slices that are

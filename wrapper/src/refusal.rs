@@ -152,6 +152,20 @@ pub(crate) fn unpack(answer: u64) -> Result<u32, Refusal> {
     }
 }
 
+/// An answer with a pair of packets beside it, as C returns it.
+#[repr(C)]
+pub(crate) struct PairAnswer {
+    answer: u64,
+    input: u32,
+    output: u32,
+}
+
+/// The pair of an answer, where there is one, or its refusal.
+pub(crate) fn unpack_pair(given: PairAnswer) -> Result<Option<(u32, u32)>, Refusal> {
+    let found = unpack(given.answer)?;
+    Ok((found == 1).then_some((given.input, given.output)))
+}
+
 /// The handle of a policy's answer, or its refusal: 5 is a fault there.
 pub(crate) fn unpack_policy(answer: u64) -> Result<u32, PolicyRefusal> {
     let (number, value) = halves(answer);

@@ -5,7 +5,7 @@
 macro_rules! calls {
     ($(
         $(#[$doc:meta])*
-        $name:ident(relations: $relations:ty, sets: $sets:ty $(, $x:ident)*) -> $given:tt;
+        $name:ident(relations: $relations:ty, sets: $sets:ty $(, $x:ident)*) -> $given:tt $(<$of:tt>)?;
     )*) => {$(
         $(#[$doc])*
         pub fn $name(
@@ -13,22 +13,28 @@ macro_rules! calls {
             sets: $sets,
             work: &mut [u32]
             $(, $x: u32)*
-        ) -> Result<$given, $crate::Refusal> {
+        ) -> Result<$given $(<$of>)?, $crate::Refusal> {
             $crate::table::give!(
-                $given,
+                $given $(<$of>)?,
                 $name(relations: $relations, sets: $sets, work $(, $x: u32 = $x)*)
             )
         }
     )*};
 }
 
-/// What a call gives where it is accepted, or its refusal: a handle, yes or no, or the children, for which C is lent an array.
+/// What a call gives where it is accepted, or its refusal: a handle, yes or no, a pair or none, or the children, for which C is lent an
+/// array.
 macro_rules! give {
     (u32, $name:ident($($arguments:tt)*)) => {
         $crate::refusal::unpack($crate::lend::ask!($name($($arguments)*)))
     };
     (bool, $name:ident($($arguments:tt)*)) => {
         $crate::refusal::unpack($crate::lend::ask!($name($($arguments)*))).map(|yes| yes == 1)
+    };
+    (Option<(u32, u32)>, $name:ident($($arguments:tt)*)) => {
+        $crate::refusal::unpack_pair(
+            $crate::lend::ask!($name($($arguments)*) -> $crate::refusal::PairAnswer)
+        )
     };
     ([u32; $count:literal], $name:ident($($arguments:tt)*)) => {{
         let mut children = [0; $count];

@@ -1,7 +1,16 @@
-//! What only C sees: null pointers of no length, and children that stay as they are.
+//! What only C sees: null pointers of no length, children that stay as they are, and the struct of a pair.
 
-use packet_store::{new, relations_len, set_zero, sets_len};
+use packet_store::{new, relation_mk, relations_len, set_zero, sets_len};
 use std::ptr::{null, null_mut};
+
+/// The header's struct.
+#[repr(C)]
+#[derive(Debug, PartialEq)]
+struct Pair {
+    answer: u64,
+    input: u32,
+    output: u32,
+}
 
 extern "C" {
     fn packet_store_set_get(
@@ -25,6 +34,18 @@ extern "C" {
         a: u32,
         children: *mut u32,
     ) -> u64;
+
+    fn packet_store_relation_first_path(
+        relations: *const u32,
+        relations_len: usize,
+        sets: *const u32,
+        sets_len: usize,
+        work: *mut u32,
+        work_len: usize,
+        p: u32,
+        a: u32,
+        q: u32,
+    ) -> Pair;
 
     fn packet_store_policy(
         relations: *mut u32,
@@ -85,6 +106,28 @@ fn get_writes_the_children_of_an_accepted_call_only() {
     assert_eq!(relation(&sets, 1), (4 << 32, kept));
     assert_eq!(relation(&sets[..2], 3), (1 << 32, kept));
     assert_eq!(set_zero(&relations, &mut sets, &mut []), Ok(2));
+}
+
+#[test]
+fn a_pair_stands_beside_its_answer() {
+    let (mut relations, mut sets) = ([0; relations_len(4)], [0; sets_len(1)]);
+    new(&mut relations, &mut sets, &mut [], 1).unwrap();
+    // Relation 5 sends 1 to 0.
+    assert_eq!(relation_mk(&mut relations, &sets, &mut [], 0, 0, 1, 0), Ok(5));
+    let first = |len, p, a, q| {
+        let (r, s) = (relations.as_ptr(), sets.as_ptr());
+        // SAFETY: the pointers are those of slices that have these lengths, and work has no numbers.
+        unsafe {
+            packet_store_relation_first_path(r, relations.len(), s, len, null_mut(), 0, p, a, q)
+        }
+    };
+    let given = |answer, input, output| Pair { answer, input, output };
+    assert_eq!(first(sets.len(), 3, 5, 3), given(1, 1, 0));
+    assert_eq!(first(sets.len(), 3, 3, 3), given(1, 0, 0));
+    assert_eq!(first(sets.len(), 2, 5, 3), given(0, 0, 0));
+    assert_eq!(first(sets.len(), 3, 1, 3), given(3 << 32, 0, 0));
+    assert_eq!(first(sets.len(), 3, 6, 1), given(2 << 32, 0, 0));
+    assert_eq!(first(sets.len() - 1, 9, 6, 1), given(1 << 32, 0, 0));
 }
 
 #[test]

@@ -5,8 +5,6 @@ use Prim.Native.Nat.{ℕ, zero, suc, _<_, _≤_}
 use native.Mathlib.Omega.{arith}
 use lib.Dec.{ltb, eqb, T, ltb→lt}
 use Rattle.model.specs.Store.{Kind, set, rel, Store}
-use Rattle.model.specs.Meaning.{Den}
-use Rattle.model.specs.Packets.{walk}
 use Rattle.model.specs.Programs.{Prog, Ran, panic}
 use Rattle.model.specs.WellFormed.{Held, WellFormed, is-held, level-of}
 use Rattle.model.proofs.Bools.{eqb-iff}
@@ -84,10 +82,7 @@ module _ {k : ℕ} {S : Store} {l : ℕ} (F : WellFormed k S) where
       let t = also-passed _ _ _ (s .1) in
       let u = pair-passed rel set a p (t .0) in (u .1, u .0, at-level set q (s .0) (t .1) refl)
 
--- a handle's own walks
-pub own : (K : Kind) (S : Store) (l a : ℕ) → Held K S l a → Den K l (λ ds. walk K S a ds ≡ 1) S a
-own K S l a A = record { held = A; means = λ ds D. (λ x. x, λ x. x) }
-
+-- tests on numbers that were passed
 pub less : (a b : ℕ) → ltb a b ≡ true → a < b
 less a b e = ltb→lt a b (subst T (sym e) tt)
 

@@ -1,10 +1,8 @@
--- The walk along two packets, field by field, as `relates` makes it; and powers of 2.
+-- The walk along two packets, field by field, as `relates` makes it.
 use mathlib.Core.Path.{_≡_, refl, sym, ap, _∙_, subst}
 use mathlib.Core.List.{List}
-use Prim.Native.Nat.{ℕ, zero, suc, _+_, _-_, _*_, _/_, _%_, _^_, _<_, _≤_}
+use Prim.Native.Nat.{ℕ, zero, suc, _+_, _-_, _*_, _/_, _%_, _^_, _<_}
 use native.Mathlib.Omega.{arith}
-use native.Mathlib.Decide.{decLt}
-use native.Mathlib.Nat.{pow-suc}
 use lib.ListN.{getD}
 use lib.Dec.{eqb}
 use Rattle.model.specs.Packets.{packet, digits, walk}
@@ -12,22 +10,6 @@ use Rattle.model.specs.Safety.{Within}
 use Rattle.model.specs.Store.{rel, Store, get}
 use Rattle.model.specs.WellFormed.{Held}
 
--- POWERS
-pub pow-next : (i : ℕ) → 2 ^ (i + 1) ≡ 2 ^ i * 2
-pow-next i = let e : i + 1 ≡ suc i = omega arith in rw (e, pow-suc) (omega arith)
-
-pub pow-less : (i n : ℕ) → i ≤ n → 2 ^ i ≤ 2 ^ n
-pow-less i zero h = let e : i ≡ 0 = omega arith in rw e (omega arith)
-pow-less i (suc n) h = elim (decLt n i) [
-  | yes g ↦ (let e : i ≡ suc n = omega arith in rw e (omega arith))
-  | no g ↦ (let t = pow-less i n (omega arith) in rw pow-suc (omega arith))
-]
-
-pub pow-half : (l u : ℕ) → 0 < l → u ≡ 2 ^ l → u / 2 ≡ 2 ^ (l - 1)
-pow-half zero u h e = absurd (omega arith)
-pow-half (suc l) u h e = let d : suc l - 1 ≡ l = omega arith in let f : u ≡ 2 ^ l * 2 = e ∙ rw pow-suc (omega arith) in rw d (omega (arith, f))
-
--- FIELD BY FIELD
 abbrev pub pair : ℕ → ℕ → ℕ → List ℕ
 pair l p q = digits (packet l p) (packet l q)
 

@@ -23,6 +23,8 @@ pub enum Answer {
     SetNode(u32, u32),
     RelationNode(u32, u32, u32, u32),
     Declined(Refusal),
+    Pair(u32, u32),
+    Nothing,
 }
 
 // Whether a call is declined: the level of its operands, or why.

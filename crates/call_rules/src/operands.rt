@@ -1,7 +1,7 @@
 // Whether a call's operands are held, and at one level.
 ghost use mathlib.Core.Path.{_≡_};
 ghost use mathlib.Core.Bool.{_&&_};
-ghost use Prim.Native.Nat.{_^_, _<_, _≤_};
+ghost use Prim.Native.Nat.{_<_, _≤_};
 ghost use lib.ListN.{length};
 ghost use Rattle.model.specs.Store.{Kind, set, rel, arity, Store, nodes};
 ghost use Rattle.model.specs.WellFormed.{is-held};
@@ -215,20 +215,6 @@ pub fn path(
     check
 }
 
-// 2 to the power l.
-pub fn power(l: u8) -> u64
-    requires { ⌜ l ≤ 32 ⌝ }
-    ensures { λ r. ⌜ r ≡ 2 ^ l ⌝ }
-{
-    let mut p: u64 = 1;
-    let mut i: u8 = 0;
-    while i < l {
-        p = p * 2;
-        i += 1;
-    }
-    p
-}
-
 // A number as a wider one.
 pub fn as_u64(x: u32) -> u64
     ensures { λ r. ⌜ r ≡ x ⌝ }
@@ -244,7 +230,7 @@ pub fn packets(nodes: &[u32], n: usize, k: u32, a: u32, input: u32, output: u32)
 {
     let check = one(nodes, 4, n, k, a);
     if let crate::Check::Level(l) = check {
-        let most = power(memory::as_level(l));
+        let most = memory::power(memory::as_level(l));
         if as_u64(input) >= most {
             return crate::Check::No(crate::Refusal::OutOfRange);
         }

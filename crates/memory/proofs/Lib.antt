@@ -9,6 +9,7 @@ pub mod Children
 pub mod Walks
 pub mod Steps
 pub mod OtherNodes
+pub mod ReadingOnly
 pub mod Remembering
 pub mod Joining
 pub mod Looking

@@ -17,17 +17,21 @@ other-same : (K : Kind) {o : List ℕ} {j : ℕ} {B : Store} (m : List ℕ) (n :
 other-same set m n b = λ i. record { sets = rows 2 n m; rels = sym (b .read) i }
 other-same rel m n b = λ i. record { sets = sym (b .read) i; rels = rows 4 n m }
 
+-- the children of h, of the other kind, are x; a program that looks at them goes on with x
+pub children-of-other : (K : Kind) {o : List ℕ} {j : ℕ} {B : Store} (m : List ℕ) (n : ℕ) {h : ℕ} {x : List ℕ} → OtherNodes K o j B
+    → ReadsChildren (other K) o h x → Within (other K) (plain K B m n) h → get (other K) (plain K B m n) h ≡ x
+children-of-other K {j = j} {B} m n {h} {x} c k a =
+    let e = other-same K m n c in
+    subst (λ T. get (other K) T h ≡ x) e (k .kids (plain K B m n) j (c .within) (subst (λ T. Within (other K) T h) (sym e) a))
+
 module _ {K : Kind} {o m w : List ℕ} {j : ℕ} where
-  -- the children of h, of the other kind, are x
   pub read-of-other : {p : Prog} {f : List ℕ → Prog} {h : ℕ} {x : List ℕ} → ReducesOn (OtherNodes K o j) K p (look (other K) h f) m w
       → ReadsChildren (other K) o h x
       → ReducesOn (OtherNodes K o j) K p (f x) m w
   unfolding run Safe
   read-of-other {p} {f} {h} {x} u k = turn u (λ B c n l a R.
       let S = plain K B m n in
-      let e = other-same K m n c in
-      let q : get (other K) S h ≡ x
-      = subst (λ T. get (other K) T h ≡ x) e (k .kids S j (c .within) (subst (λ T. Within (other K) T h) (sym e) (a .0))) in
+      let q : get (other K) S h ≡ x = children-of-other K m n c k (a .0) in
       record { runs = ap (λ y. run (f y) S) q; safe = subst (λ y. Safe (f y) S) q (a .1) })
 
   module _ {l h : ℕ} {r : Properties} (t : KnowsProperties (other K) o w l h r) where

@@ -52,19 +52,20 @@ memo-kept {w = w} {w′} {S} k s m j f =
       | inr e ↦ says-entry _ _ _ _ _ _ _ e s
     ]
 
--- a call that runs an operation of the memo's table may keep its answer there
-pub performs-remember : {Q : Condition} {K : Kind} {p : Prog} {s r : RunState} {m m′ w w₁ w₂ : List ℕ} (op l a b : ℕ) → p ≡ memo-program op l a b
-    → PerformsOn Q K p s m m′ w w₁ r → Remembered r op l a b w₁ w₂ → PerformsOn Q K p s m m′ w w₂ r
-performs-remember {Q} {K} {p} {s} {r} {m} {m′} {w} {w₁} {w₂} op l a b e d k = record {
+-- a call that runs p may keep h as the answer of an operation of the memo's table, which is settled with it wherever p is with its own answer
+pub performs-keep : {Q : Condition} {K : Kind} {p : Prog} {s r : RunState} {m m′ w w₁ w₂ : List ℕ} (op l a b h : ℕ)
+    → ((S : Store) → Settled p S (r .h) → Settled (memo-program op l a b) S h) → PerformsOn Q K p s m m′ w w₁ r
+    → (r .ok ≡ true → KeepsEntry w₁ w₂ op l a b h) → length w₂ ≡ length w₁ → PerformsOn Q K p s m m′ w w₂ r
+performs-keep {Q} {K} {p} {s} {r} {m} {m′} {w} {w₁} {w₂} op l a b h e d k long = record {
   runs = λ B q R. let c = d .runs B q R in record {
     okay = c .okay;
-    done = λ t. let f = c .done t in let g = k .kept t in record {
+    done = λ t. let f = c .done t in let g = k t in record {
       store = f .store;
       value = f .value;
       work = record {
         fields = f .work .fields;
         formed = f .work .formed;
-        memo = memo-kept g (answer B q R t) (f .work .memo);
+        memo = memo-kept g (e _ (answer B q R t)) (f .work .memo);
         index = index-behind w₁ w₂ (g .work-length) (g .rest) (f .work .index);
         words = λ J i x y. subst (λ v. Known J (plain K B m′ (r .n)) (handle-of J 0 i) v) (sym (word-behind w₁ w₂ (g .work-length) (g .rest) J i))
             (f .work .words J i x y);
@@ -72,16 +73,18 @@ performs-remember {Q} {K} {p} {s} {r} {m} {m′} {w} {w₁} {w₂} op l a b e d 
       };
     };
     writes = c .writes;
-    work-length = k .work-length ∙ c .work-length;
+    work-length = long ∙ c .work-length;
   };
 }
   where
-    answer : (B : Store) → Q B → Ready K p B s m w → r .ok ≡ true → Settled (memo-program op l a b) (plain K B m′ (r .n)) (r .h)
-    answer B q R t =
-        let c = d .runs B q R in
-        let S = plain K B m (s .n) in
-        subst (λ q. Settled q (plain K B m′ (r .n)) (r .h)) e
-        (subst (λ (Q : Ran). Settled p (Q .store) (Q .value)) (sym (done-ran c t)) (settled p S (R .live (was-ok c t) .safe)))
+    answer : (B : Store) → Q B → Ready K p B s m w → r .ok ≡ true → Settled p (plain K B m′ (r .n)) (r .h)
+    answer B q R t = let c = d .runs B q R in
+        subst (λ (Q : Ran). Settled p (Q .store) (Q .value)) (sym (done-ran c t)) (settled p (plain K B m (s .n)) (R .live (was-ok c t) .safe))
+
+-- one that runs such an operation may keep its own answer
+pub performs-remember : {Q : Condition} {K : Kind} {p : Prog} {s r : RunState} {m m′ w w₁ w₂ : List ℕ} (op l a b : ℕ) → p ≡ memo-program op l a b
+    → PerformsOn Q K p s m m′ w w₁ r → Remembered r op l a b w₁ w₂ → PerformsOn Q K p s m m′ w w₂ r
+performs-remember {r = r} op l a b e d k = performs-keep op l a b (r .h) (λ S f. subst (λ q. Settled q S (r .h)) e f) d (k .kept) (k .work-length)
 
 -- what is left is done and kept in the memo
 pub called-kept : {Q : Condition} {K : Kind} {p n : Prog} {s r q : RunState} {m m′ w w₁ w₂ : List ℕ} (op l a b : ℕ) → s .ok ≡ true

@@ -275,6 +275,14 @@ module _ {Q : Condition} {K : Kind} {q q′ : Prog} {s r : RunState} {m m′ w w
   unfolding run Safe
   performs-differ e = performs-test (λ S. rw e) (λ S h. rw e at (h .1))
 
+  pub performs-less : ltb a b ≡ true → PerformsOn Q K q s m m′ w w′ r → PerformsOn Q K (ask (less a b) q q′) s m m′ w w′ r
+  unfolding run Safe
+  performs-less e = performs-test (λ S. rw e) (λ S h. rw e at (h .1))
+
+  pub performs-not-less : ltb a b ≡ false → PerformsOn Q K q′ s m m′ w w′ r → PerformsOn Q K (ask (less a b) q q′) s m m′ w w′ r
+  unfolding run Safe
+  performs-not-less e = performs-test (λ S. rw e) (λ S h. rw e at (h .1))
+
 -- ANSWERS of shortcuts
 module _ {Q : Condition} {K : Kind} {p : Prog} {node : ℕ → ℕ → Prog} {m w : List ℕ} where
   pub answer : {h : ℕ} → ReducesOn Q K p (ret h) m w → LooksUpOn Q K p node m w (Answer h)

@@ -1,15 +1,17 @@
 -- The operations that the memo keeps, by number: each is the part of its program that is left where no shortcut answers.
-use Prim.Native.Nat.{ℕ, _-_}
+use Prim.Native.Nat.{ℕ, zero, suc, _-_, _/_, _%_}
 use lib.Dec.{eqb, leb}
 use Rattle.model.specs.Store.{set, rel, pick}
-use Rattle.model.specs.Programs.{Prog, panic}
+use Rattle.model.specs.Programs.{Prog, panic, ret, bind, _>>=_}
 use Rattle.model.specs.Recursion.{node1, node2}
 use Rattle.model.specs.Operations.{constant, identity-at-depth, complement-op, union-op, intersect-op, xor-op, difference-op, test, assign}
 use Rattle.model.specs.Relations.{sequence-op, star-op, flip-op}
 use Rattle.model.specs.Sets.{intersects-op, ifelse}
 use Rattle.model.specs.Images.{fwd-op, bwd-op, ifwd-op, diagonal-op, push-op, pull-op, has-image-op, has-path-node}
+use Rattle.model.specs.FirstInputs.{first-input-node}
 
--- THE OPERATIONS' NUMBERS; src/memo.rt has them for the code. `ifelse` has a number for each field and `has_path` one for each output set, from these on.
+-- THE OPERATIONS' NUMBERS; src/memo.rt has them for the code. `ifelse` has a number for each field, `has_path` and `first_input` one for each output set, from
+-- these on.
 abbrev pub op-set-union : ℕ
 op-set-union = 1
 
@@ -82,9 +84,28 @@ op-ifelse = 64
 abbrev pub op-has-path : ℕ
 op-has-path = 1024
 
+abbrev pub op-first-input : ℕ
+op-first-input = 16384
+
 -- numbers are below this, so that an entry has room for one
 abbrev pub op-limit : ℕ
 op-limit = 32768
+
+-- A RANK is too large for an entry, and is kept in three parts of fourteen bits, the lowest first. Part i of the rank that the relation a has is kept with
+-- 3 * a + i in place of a.
+abbrev pub rank-parts : ℕ
+rank-parts = 3
+
+abbrev pub rank-unit : ℕ
+rank-unit = 16384
+
+abbrev pub rank-part : ℕ → ℕ → ℕ
+rank-part zero r = r % rank-unit
+rank-part (suc zero) r = r / rank-unit % rank-unit
+rank-part (suc (suc i)) r = r / rank-unit / rank-unit
+
+abbrev pub first-input-part : ℕ → ℕ → ℕ → ℕ → ℕ → Prog
+first-input-part i l p a q = first-input-node l p a q >>= λ r. ret (rank-part i r)
 
 -- the first program whose number is op
 abbrev entry : ℕ → ℕ → Prog → Prog → Prog
@@ -93,7 +114,8 @@ entry op n p rest = pick (eqb op n) p rest
 -- operation op at level l on a and b
 unfoldable pub memo-program : ℕ → ℕ → ℕ → ℕ → Prog
 memo-program op l a b =
-    pick (leb op-has-path op) (has-path-node l a b (op - op-has-path))
+    pick (leb op-first-input op) (first-input-part (b % rank-parts) l a (b / rank-parts) (op - op-first-input))
+    (pick (leb op-has-path op) (has-path-node l a b (op - op-has-path))
     (pick (leb op-ifelse op) (ifelse l (op - op-ifelse) a b)
     (entry op op-set-union (node2 (union-op set) l a b)
     (entry op op-set-xor (node2 (xor-op set) l a b)
@@ -116,4 +138,4 @@ memo-program op l a b =
     (entry op op-pull (node2 pull-op l a b)
     (entry op op-has-image (node2 has-image-op l a b)
     (entry op op-constant (constant rel a l)
-    (entry op op-identity (identity-at-depth l) panic)))))))))))))))))))))))
+    (entry op op-identity (identity-at-depth l) panic))))))))))))))))))))))))

@@ -1,6 +1,6 @@
 // What sets and relations share: nodes of c numbers in a lent slice, and the working memory.
 ghost use mathlib.Core.Path.{_≡_};
-ghost use Prim.Native.Nat.{ℕ, _<_};
+ghost use Prim.Native.Nat.{ℕ, _^_, _<_, _≤_};
 ghost use lib.ListN.{length, replicate};
 ghost use Rattle.memory.specs.Rows.{places-of};
 
@@ -44,6 +44,20 @@ pub fn as_level(x: u32) -> u8
     ensures { λ r. ⌜ r ≡ x ⌝ }
 {
     x as u8
+}
+
+// 2 to the power l.
+pub fn power(l: u8) -> u64
+    requires { ⌜ l ≤ 32 ⌝ }
+    ensures { λ r. ⌜ r ≡ 2 ^ l ⌝ }
+{
+    let mut p: u64 = 1;
+    let mut i: u8 = 0;
+    while i < l {
+        p = p * 2;
+        i += 1;
+    }
+    p
 }
 
 // The most places that a memory has.

@@ -61,6 +61,9 @@ pub const IFELSE: u32 = 64;
 // `has_path` has a number for each output set, of which this is the first.
 pub const HAS_PATH: u32 = 1024;
 
+// `first_input` has a number for each output set, of which this is the first.
+pub const FIRST_INPUT: u32 = 16384;
+
 // Numbers of operations are below this, so that an entry has room for one.
 pub const OPERATIONS: u32 = 32768;
 

@@ -11,10 +11,7 @@ use Rattle.model.specs.FieldOrder.{before?, rank, ranked}
 use Rattle.model.specs.Packets.{none, more, Packet}
 use Rattle.model.specs.Store.{pick}
 use Rattle.model.proofs.Bools.{by-test}
-
-pub pow-pos : (l : ℕ) → 0 < 2 ^ l
-pow-pos zero = rw pow-zero (omega arith)
-pow-pos (suc l) = rw pow-suc (omega (arith, pow-pos l))
+use Rattle.model.proofs.Powers.{pow-pos}
 
 pub packet-length : {l : ℕ} {p : List ℕ} → Packet l p → length p ≡ l
 packet-length none = refl
@@ -30,7 +27,7 @@ ranked-is zero n = none
 ranked-is (suc l) n = more _ (bit-below _) (ranked-is l n)
 
 -- only the last l bits count
-ranked-add : (l n c : ℕ) → ranked l (c * 2 ^ l + n) ≡ ranked l n
+pub ranked-add : (l n c : ℕ) → ranked l (c * 2 ^ l + n) ≡ ranked l n
 unfolding ranked
 ranked-add zero n c = refl
 ranked-add (suc l) n c =

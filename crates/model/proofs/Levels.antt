@@ -3,10 +3,10 @@ use mathlib.Core.Path.{_≡_, refl, sym, ap, _∙_, subst}
 use mathlib.Core.Logic.{_⊎_, inl, inr, _↔_}
 use mathlib.Core.List.{List, []}
 use mathlib.Core.Bool.{Bool, true, false}
-use Prim.Native.Nat.{ℕ, zero, suc, _+_, _%_, _<_, _≤_}
+use Prim.Native.Nat.{ℕ, zero, suc, _+_, _%_, _<_, _≤_, zero-le}
 use native.Mathlib.Omega.{arith}
 use lib.ListN.{length, getD}
-use lib.Dec.{ltb, T, ltb→lt}
+use lib.Dec.{ltb, T, ltb→lt, lt→ltb}
 use Rattle.model.specs.Programs.{agrees}
 use Rattle.model.specs.Store.{Kind, set, rel, arity, Store, nodes, index, get, child}
 use Rattle.model.specs.WellFormed.{Held, WellFormed, is-held, level-of}
@@ -62,6 +62,15 @@ held-at {S = S} K h F t = elim (small h) [
 
 pub held-level : {k : ℕ} {S : Store} (K : Kind) (h : ℕ) → WellFormed k S → T (is-held K S h) → Held K S (level-of k K S h) h
 held-level {k} {S} K h F t = let r = held-at K h F t in subst (λ l. Held K S l h) (sym (level-is K S k (r .0) h (r .1) (r .2))) (r .2)
+
+-- no handle is held above level k
+pub held-most : {k : ℕ} {S : Store} (K : Kind) (l h : ℕ) → WellFormed k S → Held K S l h → l ≤ k
+held-most K zero h F A = zero-le
+held-most {S = S} K (suc l) h F A =
+    let t : T (is-held K S h)
+    = elim (small h) [ inl b ↦ absurd (omega (arith, b .1, A .big)) | inr b ↦ rw (b .0) (lt→ltb (index K h) (length (nodes K S)) (A .there)) ] in
+    let r = held-at K h F t in
+    omega (arith, r .1, held-once K S (suc l) (r .0) h A (r .2))
 
 -- two handles with one test passed are one
 pub agrees-once : {k : ℕ} {S : Store} (K : Kind) (l a b : ℕ) (f : List ℕ → ℕ) → WellFormed k S → Held K S l a → Held K S l b → T (agrees f K l a S)

@@ -25,6 +25,11 @@ pub mod Images
 pub mod YesNo
 pub mod ReadOnly
 pub mod New
+pub mod Powers
 pub mod FieldOrder
 pub mod Numbers
+pub mod Ranks
+pub mod FirstPair
+pub mod FirstInputs
+pub mod FirstDigits
 pub mod Policies

@@ -1,11 +1,11 @@
 -- Packet numbers: the packets of l fields are the numbers below 2^l, one to one, from the laws of field order.
 use mathlib.Core.Path.{_≡_, refl, sym, ap, _∙_}
 use mathlib.Core.List.{List, [], _∷_}
-use Prim.Native.Nat.{ℕ, zero, suc, _^_, _<_}
+use Prim.Native.Nat.{ℕ, zero, suc, _+_, _*_, _^_, _<_}
 use native.Mathlib.Omega.{arith}
 use Rattle.model.specs.FieldOrder.{rank, ranked}
 use Rattle.model.specs.Packets.{none, more, Packet, packet, number}
-use Rattle.model.proofs.FieldOrder.{bit-below, rank-below, ranked-rank, rank-ranked}
+use Rattle.model.proofs.FieldOrder.{packet-length, bit-below, rank-below, ranked-rank, rank-ranked}
 
 pub packet-is : (l n : ℕ) → Packet l (packet l n)
 unfolding packet
@@ -32,6 +32,13 @@ packet-number {l} {p} P = rw (packet-ranked, number-rank) (ranked-rank P)
 
 pub number-packet : (l n : ℕ) → n < 2 ^ l → number (packet l n) ≡ n
 number-packet l n h = rw (packet-ranked, number-rank) (rank-ranked l n h)
+
+-- one more field
+pub packet-more : (l b n : ℕ) → b < 2 → n < 2 ^ l → packet (suc l) (n + b * 2 ^ l) ≡ b ∷ packet l n
+unfolding number
+packet-more l b n i h =
+    let e : number (b ∷ packet l n) ≡ n + b * 2 ^ l = rw (packet-length (packet-is l n), number-packet l n h) refl in
+    ap (packet (suc l)) (sym e) ∙ packet-number (more b i (packet-is l n))
 
 -- two numbers below 2^l with one packet are one
 pub packet-once : (l m n : ℕ) → m < 2 ^ l → n < 2 ^ l → packet l m ≡ packet l n → m ≡ n

@@ -42,6 +42,10 @@ den-ext E A = den-lasts (ext-lasts E (A .held)) A
 pub den-iff : {K : Kind} {l : ℕ} {φ ψ : Sem} {S : Store} {h : ℕ} → ((ds : List ℕ) → Digits K l ds → φ ds ↔ ψ ds) → Den K l φ S h → Den K l ψ S h
 den-iff e A = record { held = A .held; means = λ ds D. (λ w. e ds D .0 (A .means ds D .0 w), λ p. A .means ds D .1 (e ds D .1 p)) }
 
+-- what a held handle means by its own walks
+pub own : (K : Kind) (S : Store) (l a : ℕ) → Held K S l a → Den K l (λ ds. walk K S a ds ≡ 1) S a
+own K S l a A = record { held = A; means = λ ds D. (λ x. x, λ x. x) }
+
 -- a child's meaning
 pub den-child : {K : Kind} {l : ℕ} {φ : Sem} {S : Store} {h : ℕ} → Den K (suc l) φ S h → (d : ℕ) → d < arity K → Den K l (λ ds. φ (d ∷ ds)) S (child K S h d)
 den-child A d i = record { held = A .held .below d i; means = λ ds D. A .means (d ∷ ds) (more d i D) }

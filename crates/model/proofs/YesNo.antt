@@ -91,7 +91,7 @@ module _ {k : ℕ} where
 abbrev pub Some2 : ℕ → Rel → Type 0
 Some2 l W = Some l (λ x. Some l (λ y. W x y))
 
-some2-split : (l : ℕ) (W : Rel) → (Some2 l (block W 0 0) ⊎ (Some2 l (block W 0 1) ⊎ (Some2 l (block W 1 0) ⊎ Some2 l (block W 1 1)))) ↔ Some2 (suc l) W
+pub some2-split : (l : ℕ) (W : Rel) → (Some2 l (block W 0 0) ⊎ (Some2 l (block W 0 1) ⊎ (Some2 l (block W 1 0) ⊎ Some2 l (block W 1 1)))) ↔ Some2 (suc l) W
 some2-split l W = (
   elim [
     | inl c ↦ back 0 0 (omega arith) (omega arith) c

@@ -5,12 +5,14 @@ pub mod Operations
 pub mod Relations
 pub mod Sets
 pub mod Images
+pub mod FirstInputs
 pub mod NewNodes
 pub mod Packets
 pub mod FieldOrder
 pub mod WellFormed
 pub mod FieldsFromIdentity
 pub mod Meaning
+pub mod FirstPair
 pub mod Places
 pub mod Safety
 pub mod Policies

@@ -6,10 +6,11 @@ use lib.ListN.{length, replicate}
 use Rattle.store_check.specs.Memory.{Memories}
 use Rattle.call_rules.specs.Outcome.{Outcome}
 use Rattle.call_rules.specs.declared.Answer.{Answer}
-use Rattle.packing.specs.Packed.{packed}
+use Rattle.packing.specs.declared.PairReply.{PairReply}
+use Rattle.packing.specs.Packed.{packed, packed-pair}
 
--- r, the memories and the working memory after a call whose outcome is `out` and whose answers `pack` makes numbers
-pub record Returns {A : Type 0} (pack : A → ℕ) (out : Outcome A Memories) (M′ : Memories) (w w′ : List ℕ) (r : ℕ) : Type 0 where
+-- r, the memories and the working memory after a call whose outcome is `out` and whose answers `pack` packs
+pub record Returns {A R : Type 0} (pack : A → R) (out : Outcome A Memories) (M′ : Memories) (w w′ : List ℕ) (r : R) : Type 0 where
   pub answer : r ≡ pack (out .answer)
   pub state : M′ ≡ out .state
   pub zeros : w′ ≡ replicate (length w) 0
@@ -17,3 +18,7 @@ pub record Returns {A : Type 0} (pack : A → ℕ) (out : Outcome A Memories) (M
 -- the same of a call with the answers that `pack` packs
 abbrev pub Answers : Outcome Answer Memories → Memories → List ℕ → List ℕ → ℕ → Type 0
 Answers out M′ w w′ r = Returns packed out M′ w w′ r
+
+-- and with the pair in the answer beside it
+abbrev pub AnswersPair : Outcome Answer Memories → Memories → List ℕ → List ℕ → PairReply → Type 0
+AnswersPair out M′ w w′ r = Returns packed-pair out M′ w w′ r

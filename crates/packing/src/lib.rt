@@ -1,6 +1,6 @@
 // An answer as C takes it.
 ghost use mathlib.Core.Path.{_≡_};
-ghost use Rattle.packing.specs.Packed.{packed, filled-set, filled-relation};
+ghost use Rattle.packing.specs.Packed.{packed, packed-pair, filled-set, filled-relation};
 
 // The number of the refusal in the high half, or 0; the first value in the low half, or 0.
 pub fn pack(a: call_rules::Answer) -> u64
@@ -12,6 +12,35 @@ pub fn pack(a: call_rules::Answer) -> u64
         call_rules::Answer::SetNode(x0, _) => x0 as u64,
         call_rules::Answer::RelationNode(x00, _, _, _) => x00 as u64,
         call_rules::Answer::Declined(r) => call_rules::number_of(r) as u64 * 0x1_0000_0000,
+        call_rules::Answer::Pair(_, _) => 1,
+        call_rules::Answer::Nothing => 0,
+    }
+}
+
+// An answer with the pair that it has, as C takes it.
+#[repr(C)]
+pub struct PairReply {
+    pub answer: u64,
+    pub input: u32,
+    pub output: u32,
+}
+
+// The answer packed, and the pair, or 0 and 0.
+pub fn pack_pair(a: call_rules::Answer) -> PairReply
+    ensures { λ r. ⌜ r ≡ packed-pair a ⌝ }
+{
+    let answer = pack(a);
+    if let call_rules::Answer::Pair(x, y) = a {
+        return PairReply {
+            answer: answer,
+            input: x,
+            output: y,
+        };
+    }
+    PairReply {
+        answer: answer,
+        input: 0,
+        output: 0,
     }
 }
 
@@ -28,6 +57,8 @@ pub fn fill_set(a: call_rules::Answer, children: &mut [u32; 2])
         }
         call_rules::Answer::RelationNode(_, _, _, _) => {}
         call_rules::Answer::Declined(_) => {}
+        call_rules::Answer::Pair(_, _) => {}
+        call_rules::Answer::Nothing => {}
     }
 }
 
@@ -46,5 +77,7 @@ pub fn fill_relation(a: call_rules::Answer, children: &mut [u32; 4])
             children[3] = x11;
         }
         call_rules::Answer::Declined(_) => {}
+        call_rules::Answer::Pair(_, _) => {}
+        call_rules::Answer::Nothing => {}
     }
 }

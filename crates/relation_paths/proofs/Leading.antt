@@ -2,11 +2,11 @@
 use mathlib.Core.Path.{_≡_, refl, sym, ap, subst}
 use mathlib.Core.Logic.{_⊎_, inl, inr}
 use mathlib.Core.List.{List, [], _∷_}
-use mathlib.Core.Bool.{true}
-use Prim.Native.Nat.{ℕ, zero, suc, _+_, _-_}
+use mathlib.Core.Bool.{true, false}
+use Prim.Native.Nat.{ℕ, zero, suc, _+_, _-_, _<_}
 use native.Mathlib.Omega.{arith}
 use lib.Dec.{ltb}
-use borrow.Author.Tests.{eq-eqb, ne-eqb, lt-ltb}
+use borrow.Author.Tests.{eq-eqb, ne-eqb, lt-ltb, le-ltb}
 use Rattle.model.specs.Images.{has-image-op, has-image, has-path-short, has-path-kids, has-path-node, has-path}
 use Rattle.model.specs.Programs.{Prog, panic, ret, look}
 use Rattle.model.specs.Recursion.{node2, op2, or-else}
@@ -14,7 +14,7 @@ use Rattle.model.specs.Sets.{intersects}
 use Rattle.model.specs.Store.{Kind, set, rel}
 use Rattle.model.proofs.Recursion.{node2-open}
 use Rattle.memory.specs.Performing.{run-state, Condition, PerformsOn, OtherNodes, ReducesOn, ReadsChildren, Remembered}
-use Rattle.memory.specs.Memo.{memo-program, op-has-image, op-has-path}
+use Rattle.memory.specs.Memo.{memo-program, op-has-image, op-has-path, op-first-input}
 use Rattle.memory.specs.declared.RunState.{RunState}
 use Rattle.memory.proofs.OtherNodes.{read-of-other}
 use Rattle.memory.proofs.Remembering.{performs-remember}
@@ -53,12 +53,13 @@ pub path-is : (l p a q : ℕ) → has-path l p a q ≡ has-path-short l p a q (h
 unfolding has-path
 path-is l p a q = refl
 
-pub path-memo : (l p a q : ℕ) → has-path-node l p a q ≡ memo-program (op-has-path + q) l p a
+pub path-memo : (l p a q : ℕ) → op-has-path + q < op-first-input → has-path-node l p a q ≡ memo-program (op-has-path + q) l p a
 unfolding memo-program
-path-memo l p a q =
+path-memo l p a q h =
+    let c : ltb 16383 (1024 + q) ≡ false = le-ltb 16383 (1024 + q) (omega arith) in
     let b : ltb 1023 (1024 + q) ≡ true = lt-ltb 1023 (1024 + q) (omega arith) in
     let d : 1024 + q - 1024 ≡ q = omega arith in
-    rw (b, d)
+    rw (c, b, d)
 
 pub path-zero : (l p a q : ℕ) → l ≡ 0 → has-path-node l p a q ≡ panic
 unfolding has-path-node
@@ -98,9 +99,9 @@ module _ {Q : Condition} {t : Prog} {l p a q : ℕ} {m w : List ℕ} {r : PathSh
 -- the answer is kept where the memo has a number for it
 pub path-returns : {Q : Condition} {t n : Prog} {s r z : RunState} {m m₁ w w₁ w₂ : List ℕ} (l p a q : ℕ) → s .ok ≡ true
     → ReducesOn Q set t (has-path-node l p a q) m w → ReducesOn Q set (has-path-node l p a q) n m w → PerformsOn Q set n s m m₁ w w₁ r
-    → (z ≡ r) × ((w₂ ≡ w₁) ⊎ Remembered r (1024 + q) l p a w₁ w₂) → PerformsOn Q set t s m m₁ w w₂ z
+    → (z ≡ r) × ((w₂ ≡ w₁) ⊎ ((op-has-path + q < op-first-input) × Remembered r (op-has-path + q) l p a w₁ w₂)) → PerformsOn Q set t s m m₁ w w₂ z
 path-returns {Q} {t} {n} {s} {r} {z} {m} {m₁} {w} {w₁} {w₂} l p a q ok u o d k = called ok u
     (subst (λ y. PerformsOn Q set (has-path-node l p a q) s m m₁ w w₂ y) (sym (k .0)) (elim (k .1) [
       | inl e ↦ subst (λ v. PerformsOn Q set (has-path-node l p a q) s m m₁ w v r) (sym e) (called ok o d)
-      | inr f ↦ performs-remember _ l p a (path-memo l p a q) (called ok o d) f
+      | inr f ↦ performs-remember _ l p a (path-memo l p a q (f .0)) (called ok o d) (f .1)
     ]))

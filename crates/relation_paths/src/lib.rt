@@ -1,17 +1,17 @@
 // Whether a relation leads from a set, or to another, after spp.rs: 1 or 0. Nothing is added.
 ghost use mathlib.Core.Path.{_≡_};
 ghost use mathlib.Core.Logic.{_⊎_};
-ghost use Prim.Native.Nat.{ℕ, _+_};
+ghost use Prim.Native.Nat.{ℕ, _+_, _<_};
 ghost use Rattle.model.specs.Store.{set};
 ghost use Rattle.model.specs.Recursion.{node2};
 ghost use Rattle.model.specs.Images.{has-image, has-image-op, has-path};
 ghost use Rattle.memory.specs.Performing.{PerformsOn, OtherNodes, LooksUpOn, Remembered};
-ghost use Rattle.memory.specs.Memo.{op-has-path};
+ghost use Rattle.memory.specs.Memo.{op-has-path, op-first-input};
 ghost use Rattle.relation_paths.specs.Paths.{PathReduces};
 use memory::RunState;
 
 // The memo has no number for an output set from here on.
-const NO_NUMBER: u32 = memory::memo::OPERATIONS - memory::memo::HAS_PATH;
+const NO_NUMBER: u32 = memory::memo::FIRST_INPUT - memory::memo::HAS_PATH;
 
 // What shortcuts know of a path: the answer, that the two sets are to share a packet, that any output will do, or nothing.
 enum PathShortcut {
@@ -143,7 +143,8 @@ fn has_path_tests(
 
 // Keeps what was found of a path, where the memo has a number for it.
 fn keep_path(work: &mut [u32], r: RunState, level: u8, p: u32, a: u32, q: u32) -> RunState
-    ensures { λ z. ⌜ (z ≡ r) × ((now (work .exit) ≡ now (work .entry)) ⊎ Remembered r (op-has-path + q) level p a (now (work .entry)) (now (work .exit))) ⌝ }
+    ensures { λ z. ⌜ (z ≡ r) × ((now (work .exit) ≡ now (work .entry)) ⊎ ((op-has-path + q < op-first-input)
+        × Remembered r (op-has-path + q) level p a (now (work .entry)) (now (work .exit)))) ⌝ }
 {
     if q >= NO_NUMBER {
         return r;

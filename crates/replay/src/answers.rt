@@ -39,6 +39,16 @@ fn show(a: call_rules::Answer) -> Shown
             count: 1,
             x: [call_rules::number_of(r), 0, 0, 0],
         },
+        call_rules::Answer::Pair(x, y) => Shown {
+            letter: b'p',
+            count: 2,
+            x: [x, y, 0, 0],
+        },
+        call_rules::Answer::Nothing => Shown {
+            letter: b'n',
+            count: 0,
+            x: [0, 0, 0, 0],
+        },
     }
 }
 

@@ -195,6 +195,9 @@ fn path_read(name: &[u8], row: Row) -> Call {
     if is(name, b"has_path", row, 3) {
         return Call::ReadsPath(PathRead::HasPath(x[0], x[1], x[2]));
     }
+    if is(name, b"first_path", row, 3) {
+        return Call::ReadsPath(PathRead::FirstPath(x[0], x[1], x[2]));
+    }
     Call::Nothing
 }
 

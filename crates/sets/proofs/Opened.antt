@@ -102,10 +102,11 @@ ifelse-below (suc l) (suc v) t e h g =
 pub ifelse-memo : (l v t e : ℕ) → v < 256 → ifelse l v t e ≡ memo-program (op-ifelse + v) l t e
 unfolding memo-program
 ifelse-memo l v t e h =
+    let f : ltb 16383 (64 + v) ≡ false = le-ltb 16383 (64 + v) (omega arith) in
     let a : ltb 1023 (64 + v) ≡ false = le-ltb 1023 (64 + v) (omega arith) in
     let b : ltb 63 (64 + v) ≡ true = lt-ltb 63 (64 + v) (omega arith) in
     let d : 64 + v - 64 ≡ v = omega arith in
-    rw (a, b, d)
+    rw (f, a, b, d)
 
 -- RAISE
 pub raise-zero : (n r : ℕ) → n ≡ 0 → raise n r ≡ ret r

@@ -8,7 +8,7 @@ use Rattle.model.specs.Meaning.{Den, Relates}
 use Rattle.model.specs.WellFormed.{WellFormed, level-of}
 use Rattle.model.proofs.Images.{fwd-does, bwd-does, push-does, pull-does, diagonal-does, ifwd-does, ibwd-does}
 use Rattle.model.proofs.Pairs.{relates-own}
-use Rattle.model.proofs.Rules.{Does}
+use Rattle.model.proofs.Rules.{Does, own}
 use Rattle.model.proofs.YesNo.{has-image-does, has-path-does}
 use Rattle.store.specs.ImageCalls.{image-declines, image-program, filter-declines, filter-program, path-declines}
 use Rattle.store.specs.ImageChecking.{PathSafe}
@@ -20,8 +20,8 @@ use Rattle.store.specs.declared.image_calls.ImageCall.the-variants.{Fwd,
 use Rattle.store.specs.declared.filter_calls.FilterCall.{FilterCall}
 use Rattle.store.specs.declared.filter_calls.FilterCall.the-variants.{Diagonal, Ifwd, Ibwd}
 use Rattle.store.specs.declared.path_reads.PathRead.{PathRead}
-use Rattle.store.specs.declared.path_reads.PathRead.the-variants.{HasImage, HasPath}
-use Rattle.call_rules.proofs.Declining.{own, pair-passed, path-passed}
+use Rattle.store.specs.declared.path_reads.PathRead.the-variants.{HasImage, HasPath, FirstPath}
+use Rattle.call_rules.proofs.Declining.{pair-passed, path-passed}
 use Rattle.store.proofs.SetMeant.{set-single}
 use Rattle.store.proofs.RelationMeant.{single}
 
@@ -56,3 +56,4 @@ module _ {k : ℕ} {S : Store} {l : ℕ} (F : WellFormed k S) where
   path-safe (HasPath p a q) e =
       let t = path-passed F p a q e in
       has-path-does l p a q F (t .1 .low) (own set S l p (t .0 .held)) (relates-own S l a (t .1 .held)) (own set S l q (t .2 .held)) .safe
+  path-safe (FirstPath p a q) e = let t = path-passed F p a q e in (t .0 .held, t .1 .held, t .2 .held)

@@ -4,3 +4,4 @@ pub mod ImageMeant
 pub mod SetSteps
 pub mod RelationSteps
 pub mod ImageSteps
+pub mod FirstPaths

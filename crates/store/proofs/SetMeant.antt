@@ -12,7 +12,7 @@ use Rattle.model.specs.Meaning.{Den}
 use Rattle.model.specs.WellFormed.{Held, WellFormed, level-of}
 use Rattle.model.proofs.Constants.{zero-does, full-does}
 use Rattle.model.proofs.Pointwise.{union-does, intersect-does, xor-does, difference-does}
-use Rattle.model.proofs.Rules.{Does, held-within}
+use Rattle.model.proofs.Rules.{Does, own, held-within}
 use Rattle.model.proofs.SetFields.{mk-set, ifelse-does, set-test-does}
 use Rattle.model.proofs.YesNo.{is-zero-does, intersects-does}
 use Rattle.store.specs.Meanings.{set-meaning}
@@ -24,7 +24,7 @@ use Rattle.store.specs.declared.set_calls.SetCall.{SetCall}
 use Rattle.store.specs.declared.set_calls.SetCall.the-variants.{Mk, Zero, One, Union, Intersect, Xor, Difference, Test, Ifelse}
 use Rattle.store.specs.declared.set_reads.SetRead.{SetRead}
 use Rattle.store.specs.declared.set_reads.SetRead.the-variants.{Get, Complement, IsZero, Intersects}
-use Rattle.call_rules.proofs.Declining.{own, guard-passed, also-passed, one-passed, two-passed, less, above}
+use Rattle.call_rules.proofs.Declining.{guard-passed, also-passed, one-passed, two-passed, less, above}
 
 -- CALLS THAT MAY ADD SETS
 module _ {k : ℕ} {S : Store} {l : ℕ} (F : WellFormed k S) where

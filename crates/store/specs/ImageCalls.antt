@@ -1,18 +1,23 @@
 -- The calls between relations and sets, after spp.rs: what each declines in document 01's order, what it runs, and what it answers.
+use mathlib.Core.List.{List}
+use mathlib.Core.Option.{Option, none, some}
 use Prim.Native.Nat.{ℕ}
+use lib.ListN.{take, drop}
 use Rattle.model.specs.Store.{set, rel, Store}
 use Rattle.model.specs.Programs.{Prog}
+use Rattle.model.specs.Packets.{number}
+use Rattle.model.specs.FirstPair.{first-path}
 use Rattle.model.specs.Images.{fwd, bwd, push, pull, diagonal, ifwd, ibwd, has-image, has-path}
 use Rattle.call_rules.specs.Outcome.{Verdict, gives, runs, unless-declined, as-handle, of-one, of-pair, of-path, yes-no}
 use Rattle.call_rules.specs.declared.Check.{Check}
 use Rattle.call_rules.specs.declared.Answer.{Answer}
-use Rattle.call_rules.specs.declared.Answer.the-variants.{Declined}
+use Rattle.call_rules.specs.declared.Answer.the-variants.{Declined, Pair, Nothing}
 use Rattle.store.specs.declared.image_calls.ImageCall.{ImageCall}
 use Rattle.store.specs.declared.image_calls.ImageCall.the-variants.{Fwd, Bwd, Push, Pull}
 use Rattle.store.specs.declared.filter_calls.FilterCall.{FilterCall}
 use Rattle.store.specs.declared.filter_calls.FilterCall.the-variants.{Diagonal, Ifwd, Ibwd}
 use Rattle.store.specs.declared.path_reads.PathRead.{PathRead}
-use Rattle.store.specs.declared.path_reads.PathRead.the-variants.{HasImage, HasPath}
+use Rattle.store.specs.declared.path_reads.PathRead.the-variants.{HasImage, HasPath, FirstPath}
 
 -- CALLS THAT MAY ADD SETS. 01: "One-operand operations: 1; 2; 6. Those with two or three .. : 1; 2; 3; 6"
 abbrev pub image-declines : ℕ → ImageCall → Store → Check
@@ -48,10 +53,17 @@ filter-verdict c k S = unless-declined Declined (filter-declines k c S) (λ l. r
 abbrev pub path-declines : ℕ → PathRead → Store → Check
 path-declines k (HasImage p a) S = of-pair k S rel a set p
 path-declines k (HasPath p a q) S = of-path k S p a q
+path-declines k (FirstPath p a q) S = of-path k S p a q
+
+-- the packet of 2l fields of a pair is answered by the numbers of its halves
+abbrev pub as-pair : ℕ → Option (List ℕ) → Answer
+as-pair l none = Nothing
+as-pair l (some z) = Pair (number (take l z)) (number (drop l z))
 
 abbrev pub path-answer : Store → ℕ → PathRead → Answer
 path-answer S l (HasImage p a) = yes-no (has-image l p a) S
 path-answer S l (HasPath p a q) = yes-no (has-path l p a q) S
+path-answer S l (FirstPath p a q) = as-pair l (first-path l S p a q)
 
 abbrev pub path-verdict : PathRead → ℕ → Store → Verdict Answer
 path-verdict c k S = unless-declined Declined (path-declines k c S) (λ l. gives (path-answer S l c))

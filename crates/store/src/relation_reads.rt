@@ -44,7 +44,7 @@ fn relates(nodes: &[u32], level: u8, a: u32, input: u32, output: u32) -> bool
 {
     let mut h = a;
     let mut l = level;
-    let mut unit = call_rules::operands::power(level);
+    let mut unit = memory::power(level);
     while l > 0 {
         unit = unit / 2;
         let i = call_rules::operands::as_u64(input) / unit % 2;

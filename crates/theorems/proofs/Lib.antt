@@ -1,6 +1,8 @@
 pub mod CallMeans
 pub mod ReadMeans
 pub mod ImageMeans
+pub mod FirstPath
+pub mod WrongPairs
 pub mod Matching
 pub mod OneCall
 pub mod AnyStore

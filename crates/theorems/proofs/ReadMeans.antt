@@ -18,7 +18,7 @@ use Rattle.model.specs.WellFormed.{Held, WellFormed}
 use Rattle.model.proofs.Bools.{eqb-iff}
 use Rattle.model.proofs.Pairs.{relates-den, relates-own, relates-iff, digits-of, relates-x00, relates-x01, relates-x10, relates-x11}
 use Rattle.model.proofs.Pointwise.{complement-does}
-use Rattle.model.proofs.Rules.{den-child}
+use Rattle.model.proofs.Rules.{own, den-child}
 use Rattle.model.proofs.YesNo.{is-zero-does, intersects-does}
 use Rattle.store.specs.Calls.{set-read, relation-read, step}
 use Rattle.call_rules.specs.OnMemories.{on-store}
@@ -37,7 +37,7 @@ use Rattle.store.specs.declared.relation_reads.RelationRead.{RelationRead}
 use Rattle.store.specs.declared.relation_reads.RelationRead.the-variants as R
 use Rattle.store.specs.declared.set_reads.SetRead.{SetRead}
 use Rattle.store.specs.declared.set_reads.SetRead.the-variants as T
-use Rattle.call_rules.proofs.Declining.{own, also-passed, one-passed, two-passed, above}
+use Rattle.call_rules.proofs.Declining.{also-passed, one-passed, two-passed, above}
 use Rattle.call_rules.proofs.Outcomes.{ended, store-outcome}
 use Rattle.store.proofs.RelationSteps.{relation-read-steps}
 use Rattle.store.proofs.SetSteps.{set-read-steps}

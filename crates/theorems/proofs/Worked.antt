@@ -10,7 +10,8 @@ use lib.ListN.{length, length-drop}
 use Rattle.memory.specs.Rows.{places-of}
 use Rattle.model.specs.Images.{fwd, bwd, ifwd, ibwd, diagonal, push, pull, has-image, has-path, has-path-node, blank, new}
 use Rattle.model.specs.Operations.{constant, identity-at-depth, complement, union, intersect, xor, difference, raise, each-field, test, assign, is-zero}
-use Rattle.model.specs.Packets.{packet}
+use Rattle.model.specs.Packets.{packet, number}
+use Rattle.model.specs.FirstPair.{first-packet, first-pair}
 use Rattle.model.specs.Policies.{policy-program}
 use Rattle.model.specs.Programs.{agrees, run}
 use Rattle.model.specs.Recursion.{node1, op1, node2, op2}
@@ -37,7 +38,7 @@ use Rattle.policies.specs.Outcome.{of-reading, text-verdict}
 use Rattle.theorems.specs.AllCalls.{answered, any-step, plain-any-step, all-calls}
 use Rattle.theorems.specs.Lists.{in-turn, plain-steps}
 use Rattle.theorems.specs.PlainStore.{asked, on-lists, plain-step, plain-policy-step, begun}
-use Rattle.theorems.specs.Worked.{Expected, yields, refuses, TableRight, one-field, no-field, faults, lister-lines, two-fields, Worked}
+use Rattle.theorems.specs.Worked.{Expected, yields, refuses, TableRight, one-field, no-field, faults, lister-lines, two-fields, first-pairs, Worked}
 use Rattle.theorems.proofs.AllCalls.{any-right}
 use Rattle.theorems.proofs.Lists.{lists-right}
 
@@ -55,6 +56,11 @@ unfolding in-turn plain-any-step plain-step asked on-lists finishes guard also o
     sequence star flip naive-forward backward ifelse intersects fwd bwd ifwd ibwd diagonal push pull has-image has-path has-path-node new
     op1 node1 op2 node2
 calls-plain = (refl, refl, refl)
+
+pairs-plain : Plainly 2 3 9 (without-new first-pairs)
+unfolding in-turn plain-any-step plain-step asked on-lists finishes guard also of-one of-pair of-path of-four level-of number first-packet first-pair
+    run get mk-store mk-handle place having agrees constant identity-at-depth each-field test raise new op2 node2
+pairs-plain = refl
 
 texts-plain : Plainly 1 1 3 (without-new faults) × Plainly 1 1 5 (without-new lister-lines)
 unfolding in-turn plain-any-step plain-policy-step on-lists finishes text-verdict of-reading policy-program
@@ -120,4 +126,5 @@ worked = record {
   policies = begins 1 14 3 (without-new faults) refl (texts-plain .0);
   listed = begins 1 22 3 (without-new lister-lines) refl (texts-plain .1);
   ordered = begins 2 146 21 (without-new two-fields) refl (calls-plain .2);
+  first = begins 2 38 7 (without-new first-pairs) refl pairs-plain;
 }

@@ -1,4 +1,5 @@
 pub mod ReadMeanings
+pub mod FirstPath
 pub mod PlainStore
 pub mod Lists
 pub mod AllCalls

@@ -1,17 +1,18 @@
--- What the answer of a call that adds nothing says of its operands in the store S: document 01, "The operations", `get` and `relates`.
+-- What the answer of a call that adds nothing says of its operands in the store S: document 01, "The operations", `get` and `relates`; 02, M-100.
 use mathlib.Core.Path.{_≡_}
 use mathlib.Core.List.{List, _∷_}
 use mathlib.Core.Logic.{_↔_}
 use mathlib.Core.Bool.{true}
-use Prim.Native.Nat.{ℕ, suc}
+use Prim.Native.Nat.{ℕ, suc, _^_, _<_}
 use Rattle.model.specs.Store.{set, rel, Store}
 use Rattle.model.specs.Packets.{Packet, packet, contains, relates}
 use Rattle.model.specs.WellFormed.{level-of}
-use Rattle.model.specs.Meaning.{Den, Relates as Pairs, Some}
+use Rattle.model.specs.Meaning.{Rel, Den, Relates as Pairs, Some}
+use Rattle.model.specs.FirstPair.{FirstPair}
 use Rattle.call_rules.specs.declared.Answer.{Answer}
-use Rattle.call_rules.specs.declared.Answer.the-variants.{Handle, Truth, SetNode, RelationNode, Declined}
+use Rattle.call_rules.specs.declared.Answer.the-variants.{Handle, Truth, SetNode, RelationNode, Declined, Pair, Nothing}
 use Rattle.store.specs.declared.path_reads.PathRead.{PathRead}
-use Rattle.store.specs.declared.path_reads.PathRead.the-variants.{HasImage, HasPath}
+use Rattle.store.specs.declared.path_reads.PathRead.the-variants.{HasImage, HasPath, FirstPath}
 use Rattle.store.specs.declared.relation_reads.RelationRead.{RelationRead}
 use Rattle.store.specs.declared.relation_reads.RelationRead.the-variants as R
 use Rattle.store.specs.declared.set_reads.SetRead.{SetRead}
@@ -25,6 +26,8 @@ a-handle P (Truth b) = ⊥
 a-handle P (SetNode x0 x1) = ⊥
 a-handle P (RelationNode x00 x01 x10 x11) = ⊥
 a-handle P (Declined r) = Unit {0}
+a-handle P (Pair x y) = ⊥
+a-handle P Nothing = ⊥
 
 -- yes exactly where X is so
 abbrev pub yes-where : Type 0 → Answer → Type 0
@@ -33,6 +36,8 @@ yes-where X (Truth b) = (b ≡ true) ↔ X
 yes-where X (SetNode x0 x1) = ⊥
 yes-where X (RelationNode x00 x01 x10 x11) = ⊥
 yes-where X (Declined r) = Unit {0}
+yes-where X (Pair x y) = ⊥
+yes-where X Nothing = ⊥
 
 -- the two children of a set, the four of a relation, with P
 abbrev pub two-children : (ℕ → ℕ → Type 0) → Answer → Type 0
@@ -41,6 +46,8 @@ two-children P (Truth b) = ⊥
 two-children P (SetNode x0 x1) = P x0 x1
 two-children P (RelationNode x00 x01 x10 x11) = ⊥
 two-children P (Declined r) = Unit {0}
+two-children P (Pair x y) = ⊥
+two-children P Nothing = ⊥
 
 abbrev pub four-children : (ℕ → ℕ → ℕ → ℕ → Type 0) → Answer → Type 0
 four-children P (Handle h) = ⊥
@@ -48,6 +55,18 @@ four-children P (Truth b) = ⊥
 four-children P (SetNode x0 x1) = ⊥
 four-children P (RelationNode x00 x01 x10 x11) = P x00 x01 x10 x11
 four-children P (Declined r) = Unit {0}
+four-children P (Pair x y) = ⊥
+four-children P Nothing = ⊥
+
+-- the first pair in R, by the numbers of its packets of l fields; or none, where R has no pair
+abbrev pub the-first-pair : ℕ → Rel → Answer → Type 0
+the-first-pair l R (Handle h) = ⊥
+the-first-pair l R (Truth b) = ⊥
+the-first-pair l R (SetNode x0 x1) = ⊥
+the-first-pair l R (RelationNode x00 x01 x10 x11) = ⊥
+the-first-pair l R (Declined r) = Unit {0}
+the-first-pair l R (Pair x y) = (x < 2 ^ l) × (y < 2 ^ l) × FirstPair l R (packet l x) (packet l y)
+the-first-pair l R Nothing = ¬ Some l (λ x. Some l (λ y. R x y))
 
 -- CHILDREN of the handle a of level l: each is held one level below, and has what a has on packets that begin with its bits
 pub record SetChildren (S : Store) (l a x0 x1 : ℕ) : Type 0 where
@@ -78,8 +97,9 @@ relation-read-meaning k (R.IsZero a) S =
     yes-where ((p q : List ℕ) → Packet (level-of k rel S a) p → Packet (level-of k rel S a) q → ¬ relates S a p q)
 relation-read-meaning k (R.Relates a p q) S = yes-where (relates S a (packet (level-of k rel S a) p) (packet (level-of k rel S a) q))
 
--- whether a relation leads from a packet of a set, and to one of another
+-- whether a relation leads from a packet of a set, and to one of another; and the first pair that it leads from and to
 unfoldable pub path-meaning : ℕ → PathRead → Store → Answer → Type 0
 path-meaning k (HasImage p a) S = (let l = level-of k rel S a in yes-where (Some l (λ x. Some l (λ y. contains S p x × relates S a x y))))
 path-meaning k (HasPath p a q) S =
     (let l = level-of k rel S a in yes-where (Some l (λ x. Some l (λ y. contains S p x × relates S a x y × contains S q y))))
+path-meaning k (FirstPath p a q) S = (let l = level-of k rel S a in the-first-pair l (λ x y. contains S p x × relates S a x y × contains S q y))

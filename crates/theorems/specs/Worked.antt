@@ -1,4 +1,4 @@
--- Document 01, "Calls with their handles": the calls in its order, each with its answer.
+-- Document 01, "Calls with their handles": the calls in its order, each with its answer; and 02, M-100.
 use mathlib.Core.Path.{_≡_}
 use mathlib.Core.List.{List, [], _∷_, map}
 use mathlib.Core.Bool.{Bool, true, false}
@@ -6,9 +6,9 @@ use Prim.Native.Nat.{ℕ}
 use lib.ListN.{length}
 use Rattle.store_check.specs.Memory.{Memories}
 use Rattle.call_rules.specs.declared.Answer.{Answer}
-use Rattle.call_rules.specs.declared.Answer.the-variants.{Handle, Truth, SetNode, RelationNode, Declined}
+use Rattle.call_rules.specs.declared.Answer.the-variants.{Handle, Truth, SetNode, RelationNode, Declined, Pair, Nothing}
 use Rattle.call_rules.specs.declared.Refusal.{Refusal}
-use Rattle.call_rules.specs.declared.Refusal.the-variants.{OutOfRange, UsedUp}
+use Rattle.call_rules.specs.declared.Refusal.the-variants.{NotHeld, LevelsDiffer, OutOfRange, UsedUp}
 use Rattle.store.specs.Calls.{Call, new-store, set-call, set-read, relation-call, relation-read, image-call, filter-call, path-read}
 use Rattle.store.specs.declared.relation_calls.RelationCall.the-variants as R
 use Rattle.store.specs.declared.relation_reads.RelationRead.the-variants as RR
@@ -16,7 +16,7 @@ use Rattle.store.specs.declared.set_calls.SetCall.the-variants as T
 use Rattle.store.specs.declared.set_reads.SetRead.the-variants as TR
 use Rattle.store.specs.declared.image_calls.ImageCall.the-variants.{Fwd, Bwd, Push, Pull}
 use Rattle.store.specs.declared.filter_calls.FilterCall.the-variants.{Diagonal, Ifwd, Ibwd}
-use Rattle.store.specs.declared.path_reads.PathRead.the-variants.{HasImage, HasPath}
+use Rattle.store.specs.declared.path_reads.PathRead.the-variants.{HasImage, HasPath, FirstPath}
 use Rattle.policies.specs.declared.Fault.{Fault}
 use Rattle.policies.specs.declared.Fault.the-variants.{NotPolicy, NotPredicate}
 use Rattle.policies.specs.declared.PolicyAnswer.the-variants as P
@@ -170,6 +170,24 @@ two-fields =
     ∷ decides (path-read (HasPath 10 15 11)) false
     ∷ []
 
+-- 02, M-100: the pairs (01, 00) and (00, 10) alone, as handle 10, of which the latter is first
+abbrev pub first-pairs : List Expected
+first-pairs =
+    yields (new-store 2) 7
+    ∷ yields (relation-call (R.Mk 0 0 1 0)) 8
+    ∷ yields (relation-call (R.Mk 1 0 0 0)) 9
+    ∷ yields (relation-call (R.Mk 8 9 2 2)) 10
+    ∷ yields (set-call (T.Test 0 0)) 7
+    ∷ expects (path-read (FirstPath 5 10 5)) (Pair 0 2)
+    ∷ expects (path-read (FirstPath 5 10 7)) (Pair 1 0)
+    ∷ expects (path-read (FirstPath 4 10 5)) Nothing
+    ∷ refuses (path-read (FirstPath 3 10 99)) NotHeld
+    ∷ refuses (path-read (FirstPath 3 10 5)) LevelsDiffer
+    -- at level 0
+    ∷ expects (path-read (FirstPath 1 1 1)) (Pair 0 0)
+    ∷ expects (path-read (FirstPath 1 0 1)) Nothing
+    ∷ []
+
 -- WHAT IS CLAIMED of them. Numbers that 01 does not give are the least that hold the nodes of the table
 pub record Worked : Type 0 where
   pub handles : TableRight 46 5 one-field
@@ -184,3 +202,4 @@ pub record Worked : Type 0 where
   pub policies : TableRight 14 3 faults
   pub listed : TableRight 22 3 lister-lines
   pub ordered : TableRight 146 21 two-fields
+  pub first : TableRight 38 7 first-pairs

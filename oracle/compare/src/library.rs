@@ -38,7 +38,7 @@ type Run = fn(Memories, &[u32]) -> Result<Answer, library::Refusal>;
 pub const NEW: Run = |m, x| library::new(m.relations, m.sets, m.work, x[0]).map(Answer::Handle);
 
 /// All other calls.
-pub static CALLS: [(&str, Run); 41] = [
+pub static CALLS: [(&str, Run); 42] = [
     ("set.mk", |m, x| library::set_mk(m.relations, m.sets, m.work, x[0], x[1]).map(Answer::Handle)),
     ("set.get", |m, x| {
         let children = library::set_get(m.relations, m.sets, m.work, x[0])?;
@@ -140,6 +140,10 @@ pub static CALLS: [(&str, Run); 41] = [
     }),
     ("has_path", |m, x| {
         library::relation_has_path(m.relations, m.sets, m.work, x[0], x[1], x[2]).map(Answer::YesNo)
+    }),
+    ("first_path", |m, x| {
+        library::relation_first_path(m.relations, m.sets, m.work, x[0], x[1], x[2])
+            .map(Answer::Pair)
     }),
 ];
 

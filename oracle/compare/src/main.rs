@@ -9,6 +9,8 @@ mod lists;
 mod meaning;
 mod memory;
 mod orders;
+mod pairs;
+mod rules;
 mod texts;
 
 use case::Difference;
@@ -21,6 +23,8 @@ const USAGE: &str = "usage: compare calls SEED COUNT [sets | relations | both | 
        compare bare SEED COUNT [sets | relations | both | policies]
        compare orders SEED COUNT
        compare texts SEED COUNT
+       compare pairs SEED COUNT
+       compare triples LEVEL WORK
        compare growth";
 
 fn main() -> ExitCode {
@@ -52,6 +56,10 @@ fn run(words: &[&str]) -> Option<Result<String, Difference>> {
         ["bare", ref words @ ..] => damaged(words, Guard::Bare),
         ["orders", seed, count] => Some(orders::compare(seed.parse().ok()?, count.parse().ok()?)),
         ["texts", seed, count] => Some(texts::compare(seed.parse().ok()?, count.parse().ok()?)),
+        ["pairs", seed, count] => Some(pairs::compare(seed.parse().ok()?, count.parse().ok()?)),
+        ["triples", level @ ("0" | "1" | "2"), work] => {
+            Some(pairs::all(level.parse().ok()?, work.parse().ok()?))
+        }
         ["growth"] => Some(Ok(growth::measure())),
         _ => None,
     }

@@ -8,7 +8,7 @@ use crate::store::Store;
 use std::collections::HashSet;
 
 pub struct Bench {
-    store: Store,
+    pub store: Store,
     /// What each handle read so far means, by the walks down from it.
     relations: Vec<PacketRelation>,
     sets: Vec<PacketSet>,
@@ -33,6 +33,7 @@ impl Bench {
         self.read();
         match (answer, meaning(operation.name, self.store.fields(), operands)) {
             (Answer::YesNo(yes), Value::YesNo(expected)) => yes == expected,
+            (Answer::Pair(pair), Value::Pair(expected)) => pair == expected,
             (Answer::Handle(handle), expected) => self.is_handle_of(handle, &expected),
             (Answer::Children(children), Value::Children(expected)) => {
                 let mut pairs = children.iter().zip(&expected);
@@ -60,7 +61,7 @@ impl Bench {
     }
 
     /// The argument for an operand: a number itself, or the handle that `mk` gives from level 0 up.
-    fn hold(&mut self, value: &Value) -> u32 {
+    pub fn hold(&mut self, value: &Value) -> u32 {
         match value {
             Value::Number(number) => *number,
             Value::Set(set) if set.level == 0 => u32::from(!set.is_empty()),

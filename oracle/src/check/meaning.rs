@@ -11,6 +11,7 @@ pub enum Value {
     Number(u32),
     YesNo(bool),
     Children(Vec<Value>),
+    Pair(Option<(u32, u32)>),
 }
 
 impl Value {
@@ -100,6 +101,13 @@ pub fn meaning(name: &str, fields: u32, x: &[Value]) -> Value {
         "has_path" => Value::YesNo(exists(s(0).level, &|p| {
             s(0).has(p) && exists(s(0).level, &|q| r(1).has(p, q) && s(2).has(q))
         })),
+        "first_path" => {
+            // All pairs in order: by number, since field 0 is the highest bit.
+            let all = 0..packets(s(0).level);
+            let mut pairs = all.clone().flat_map(|p| all.clone().map(move |q| (p, q)));
+            let related = |&(p, q): &(u32, u32)| s(0).has(p) && r(1).has(p, q) && s(2).has(q);
+            Value::Pair(pairs.find(related))
+        }
         _ => panic!("no meaning for {name}"),
     }
 }

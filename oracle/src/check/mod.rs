@@ -4,6 +4,7 @@
 mod bench;
 mod meaning;
 mod operands;
+pub mod pairs;
 mod plain;
 mod policies;
 mod worked;
@@ -23,6 +24,8 @@ pub struct Effort {
     /// All lists of operands where there are at most so many, else random ones.
     pub all_up_to: u64,
     pub random_lists: usize,
+    /// `first_path` on all sets and relations of the levels up to this.
+    pub all_pairs_to: u32,
 }
 
 /// Compares all there is, writes a table, and returns whether all agreed.
@@ -40,6 +43,7 @@ pub fn check(effort: &Effort, mut output: impl Write) -> io::Result<bool> {
             agreed = false;
         }
     }
+    agreed &= pairs::check(effort.all_pairs_to, &mut output)?;
     let Checker { held, doubles, .. } = checker;
     writeln!(output, "handles with the meaning of another: {doubles} of {held}")?;
     let (answers, wrong) = worked::compare();

@@ -33,6 +33,12 @@ element-write-children-4 c = search needs
 enum-told-4 : tie.Need-enum-told-4
 enum-told-4 c = search needs
 
+enum-told-5 : tie.Need-enum-told-5
+enum-told-5 c = search needs
+
+enum-told-6 : tie.Need-enum-told-6
+enum-told-6 c = search needs
+
 returns : tie.Need-returns
 returns c = search needs
 
@@ -48,6 +54,12 @@ returns-4 c = sym (ap (λ (a : Answer). filled-relation a (c .before .before .be
 returns-5 : tie.Need-returns-5
 returns-5 c = search needs
 
+returns-6 : tie.Need-returns-6
+returns-6 c = search needs
+
+returns-7 : tie.Need-returns-7
+returns-7 c = search needs
+
 pub fill-relation-spec : {M : Type 1} → statement M
 fill-relation-spec =
     tie.close
@@ -61,8 +73,12 @@ fill-relation-spec =
     element-write-children-3
     element-write-children-4
     enum-told-4
+    enum-told-5
+    enum-told-6
     returns
     returns-2
     returns-3
     returns-4
-    returns-5)
+    returns-5
+    returns-6
+    returns-7)

@@ -41,6 +41,12 @@ cast-result-4 c = search needs
 mul-result : tie.Need-mul-result
 mul-result c = search needs
 
+enum-told : tie.Need-enum-told
+enum-told c = search needs
+
+enum-told-2 : tie.Need-enum-told-2
+enum-told-2 c = search needs
+
 returns : tie.Need-returns
 returns c = low _ ∙ sym (ap packed (c .before .a .given .1))
 
@@ -60,6 +66,12 @@ returns-6 : tie.Need-returns-6
 returns-6 c =
     ap (λ (v : ℕ). v * 4294967296) (c .number-of .ensures) ∙ (high _ ∙ sym (ap packed (c .before .before .a5 .given .1)))
 
+returns-7 : tie.Need-returns-7
+returns-7 c = sym (ap packed (c .enum-told .given .1))
+
+returns-8 : tie.Need-returns-8
+returns-8 c = sym (ap packed (c .enum-told2 .given .1))
+
 pub pack-spec : {M : Type 1} → statement M
 pack-spec =
     tie.close
@@ -75,9 +87,13 @@ pack-spec =
     number-of-requires
     cast-result-4
     mul-result
+    enum-told
+    enum-told-2
     returns
     returns-2
     returns-3
     returns-4
     returns-5
-    returns-6)
+    returns-6
+    returns-7
+    returns-8)

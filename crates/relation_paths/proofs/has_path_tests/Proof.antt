@@ -1,4 +1,5 @@
 -- `has_path_tests` knows what the properties and the memo say of whether a relation leads from a set to another.
+use native.Mathlib.Omega.{arith}
 use borrow.Author.Needs.{needs}
 use Rattle.model.specs.Store.{set}
 use Rattle.memory.proofs.OtherNodes.{empty-of-other, universal-of-other, identity-of-other}
@@ -101,7 +102,7 @@ has-path-tests-spec =
     let at-if1 = after-set-properties2 .before in
     let after-set-properties = at-if1 .before in
     record {
-      reduces = recalled _ _ _ _ (path-memo _ _ _ _)
+      reduces = recalled _ _ _ _ (path-memo _ _ _ _ (omega (arith, after-recall .before .if7 .left)))
           (no (no (no (no (no (no (by begin (path-is _ _ _ _)) (empty-says (after-set-properties .set-properties .ensures) (at-if1 .if1 .left)))
           (empty-says (after-set-properties2 .set-properties2 .ensures) (at-if2 .if2 .left)))
           (empty-of-other (after-relation-properties .relation-properties .ensures) (at-if3 .if3 .left)))

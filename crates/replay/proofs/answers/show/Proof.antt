@@ -29,6 +29,12 @@ enum-known-a-5 c = search needs
 number-of-requires : tie.Need-number-of-requires
 number-of-requires c κs = search needs
 
+enum-known-a-6 : tie.Need-enum-known-a-6
+enum-known-a-6 c = search needs
+
+enum-told : tie.Need-enum-told
+enum-told c = search needs
+
 -- what is shown of an answer is shown of one that equals it
 of-equal : (a b : Answer) (s : Shown) → a ≡ b → Shows b s → Shows a s
 of-equal a b s e = subst (λ (x : Answer). Shows x s) (sym e)
@@ -59,6 +65,12 @@ returns-6 c =
     (c .before .before .a5 .given .1)
     (record { letter = refl; few = omega arith; numbers = ap (λ (n : ℕ). n ∷ []) (c .number-of .ensures) })
 
+returns-7 : tie.Need-returns-7
+returns-7 c = of-equal _ _ _ (c .before .a6 .given .1) (record { letter = refl; few = omega arith; numbers = refl })
+
+returns-8 : tie.Need-returns-8
+returns-8 c = of-equal _ _ _ (c .enum-told .given .1) (record { letter = refl; few = omega arith; numbers = refl })
+
 pub show-spec : {M : Type 1} → statement M
 show-spec =
     tie.close
@@ -69,9 +81,13 @@ show-spec =
     enum-known-a-4
     enum-known-a-5
     number-of-requires
+    enum-known-a-6
+    enum-told
     returns
     returns-2
     returns-3
     returns-4
     returns-5
-    returns-6)
+    returns-6
+    returns-7
+    returns-8)

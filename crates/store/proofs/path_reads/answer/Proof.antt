@@ -31,6 +31,11 @@ returns-2 c j =
     let after-call2 = after-has-path .before .before .before in
     of-call _ (after-call2 .call2 .given .1) (reads-truth (has-path-read-only _ _ _ _) (λ S s. s) (λ S. refl) (after-has-path .has-path .ensures j))
 
+returns-3 : tie.Need-returns-3
+returns-3 c j =
+    let after-call3 = c .before .before .before .before .before in
+    of-call _ (after-call3 .call3 .given .1) (c .before .before .first-path .ensures j)
+
 pub answer-spec : {M : Type 1} → statement M
 answer-spec =
     tie.close
@@ -40,6 +45,10 @@ answer-spec =
     (λ c. search needs)
     (λ c κs. search needs)
     (λ c. search needs)
+    (λ c κs. search needs)
+    (λ c. search needs)
     returns
     (λ c. search needs)
-    returns-2)
+    returns-2
+    (λ c. search needs)
+    returns-3)

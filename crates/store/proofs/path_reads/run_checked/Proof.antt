@@ -84,6 +84,19 @@ as-level-requires c κs =
     (after-check .check .ensures)) _ (after-check3 .check3 .given .1) in
     omega arith
 
+answer-requires : tie.Need-answer-requires
+answer-requires c κs =
+    let after-check3 = c .before .before .before .before .before in
+    let after-check = after-check3 .before .before in
+    let after-as-index2 = after-check .before .before .before in
+    let after-as-index = after-as-index2 .before .before in
+    let entry = after-as-index .before .before .before .before .before .before in
+    let h = reading-low set (memories (entry .args .relations .now) (entry .args .sets .now)) (entry .args .work .now) (entry .pre) _
+    (after-as-index2 .as-index2 .ensures)
+    (path-reading (entry .args .call)) _ (both-here _ (entry .pre .store) (after-as-index .as-index .ensures) (after-as-index2 .as-index2 .ensures)
+    (after-check .check .ensures)) _ (after-check3 .check3 .given .1) in
+    omega (arith, c .as-level .ensures)
+
 returns-2 : tie.Need-returns-2
 returns-2 c =
     let after-as-level = c .before .before .before in
@@ -123,7 +136,7 @@ run-checked-spec =
     part-answer-start-2
     (λ c. search needs)
     as-level-requires
-    (λ c κs. search needs)
+    answer-requires
     returns
     (λ c. search needs)
     returns-2)

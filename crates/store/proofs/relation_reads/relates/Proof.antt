@@ -5,9 +5,9 @@ use native.Mathlib.Omega.{arith}
 use borrow.Author.Needs.{needs}
 use Rattle.model.specs.Store.{rel, Store}
 use Rattle.model.specs.WellFormed.{Held}
-use Rattle.model.proofs.FieldOrder.{pow-pos}
+use Rattle.model.proofs.Powers.{pow-pos, pow-half}
 use Rattle.memory.specs.Rows.{places, plain}
-use Rattle.call_rules.proofs.Walking.{pow-half, Walking, walking-starts, walking-within, walking-next, walking-ends}
+use Rattle.call_rules.proofs.Walking.{Walking, walking-starts, walking-within, walking-next, walking-ends}
 use Rattle.store.proofs.relation_reads.relates.Statement.{statement}
 use Rattle.store.proofs.relation_reads.relates.Tie as tie
 

@@ -3,9 +3,9 @@ use mathlib.Core.Path.{_≡_, refl, sym, ap, _∙_}
 use Prim.Native.Nat.{ℕ, _-_, _*_, _^_, _≤_}
 use native.Mathlib.Omega.{arith}
 use borrow.Author.Needs.{needs}
-use Rattle.call_rules.proofs.Walking.{pow-next, pow-less}
-use Rattle.call_rules.proofs.operands.power.Statement.{statement}
-use Rattle.call_rules.proofs.operands.power.Tie as tie
+use Rattle.model.proofs.Powers.{pow-next, pow-less}
+use Rattle.memory.proofs.power.Statement.{statement}
+use Rattle.memory.proofs.power.Tie as tie
 
 abbrev Inv-loop : tie.InvT-loop
 Inv-loop l p₀ i₀ p i = (i ≤ l) × (p ≡ 2 ^ i)
