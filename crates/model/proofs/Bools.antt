@@ -5,6 +5,7 @@ use mathlib.Core.Bool.{Bool, true, false, _&&_}
 use Prim.Native.Nat.{ℕ, zero, suc, _-_, _<_}
 use native.Mathlib.Omega.{arith}
 use lib.Dec.{eqb, T, eqb→eq, eqb-refl}
+use borrow.Author.Tests.{eq-eqb}
 
 -- by cases on a test
 pub by-test : (P : Bool → Type 0) (b : Bool) → (b ≡ true → P true) → (b ≡ false → P false) → P b
@@ -24,6 +25,10 @@ both-T false q t u = absurd t
 
 pub eqb-iff : (m n : ℕ) → T (eqb m n) ↔ (m ≡ n)
 eqb-iff m n = (eqb→eq m n, λ e. subst (λ x. T (eqb m x)) e (eqb-refl m))
+
+-- a test for 1
+pub one-iff : (n : ℕ) → (eqb n 1 ≡ true) ↔ (n ≡ 1)
+one-iff n = (λ e. eqb→eq n 1 (subst T (sym e) tt), eq-eqb n 1)
 
 -- two bits that are 1 together are equal
 pub bit-eq : (m n : ℕ) → m < 2 → n < 2 → (m ≡ 1) ↔ (n ≡ 1) → m ≡ n

@@ -7,7 +7,7 @@ use Prim.Native.Nat.{ℕ, suc, _+_, _*_, _/_, _%_, _^_, _<_, _≤_, min}
 use native.Mathlib.Omega.{arith}
 use native.Mathlib.Decide.{decLt, ℕ-discrete}
 use native.Mathlib.Nat.{one-mul, zero-mul}
-use lib.Dec.{ltb→lt}
+use lib.Dec.{ltb→lt, nltb→le}
 use borrow.Author.Tests.{eq-eqb, ne-eqb, le-ltb}
 use Rattle.model.specs.FieldOrder.{before?, rank, ranked}
 use Rattle.model.specs.FirstInputs.{output-bit, first-digit}
@@ -19,7 +19,7 @@ use Rattle.model.specs.Store.{set, rel, Store}
 use Rattle.model.specs.WellFormed.{WellFormed}
 use Rattle.model.proofs.Bools.{on-bits}
 use Rattle.model.proofs.FieldOrder.{rank-ranked, ranked-is}
-use Rattle.model.proofs.FirstInputs.{From, not-less, first-input-does}
+use Rattle.model.proofs.FirstInputs.{From, first-input-does}
 use Rattle.model.proofs.FirstPair.{not-before, rank-first}
 use Rattle.model.proofs.Pairs.{relates-ext, block, relates-x00, relates-x01, relates-x10, relates-x11}
 use Rattle.model.proofs.Ranks.{LeastRank, none-least, rank-more}
@@ -36,9 +36,9 @@ which-output : {k l : ℕ} {D0 D1 : Sem} {S : Store} (m n : ℕ) → WellFormed 
     → Does k S (ask (less n m) (ret 1) (ask (less m (2 ^ l)) (ret 0) (ret 2))) (λ S h. OutputBit l D0 D1 h)
 which-output {l = l} m n F M N = ask-does (less n m) tt
     (λ t. let i = ltb→lt n m t in ret-does 1 F (bit-1 n (omega (arith, M .most)) N (λ x X d. omega (arith, M .first x X d))))
-    (λ t. let i = not-less n m t in ask-does (less m (2 ^ l)) tt
+    (λ t. let i = nltb→le n m t in ask-does (less m (2 ^ l)) tt
     (λ u. ret-does 0 F (bit-0 m (ltb→lt m (2 ^ l) u) M (λ x X d. omega (arith, N .first x X d))))
-    (λ u. let j = not-less m (2 ^ l) u in ret-does 2 F (no-bit (none-least j M) (none-least (omega arith) N))))
+    (λ u. let j = nltb→le m (2 ^ l) u in ret-does 2 F (no-bit (none-least j M) (none-least (omega arith) N))))
 
 -- THE FIRST DIGIT of R's first pair: R has pairs in that child, and the first pair there is the rest of R's
 pub record FirstDigit (l : ℕ) (R : Rel) (d : ℕ) : Type 0 where
@@ -171,6 +171,6 @@ module _ {k : ℕ} where
       let W = From P R Q in
       bind-does (output-bit-does l _ _ _ _ _ F (omega arith) (den-child A 0 (omega arith)) (relates-x00 B) (relates-x01 B) q0 q1) λ S₁ d E₁ F₁ D.
       ask-does (less d 2) tt (λ t. ret-does d F₁ (digit-from-0 W d (ltb→lt d 2 t) D))
-      (λ t. let n = no-outputs d (not-less d 2 t) D in
+      (λ t. let n = no-outputs d (nltb→le d 2 t) D in
       bind-does (output-bit-does l _ _ _ _ _ F₁ (omega arith) (den-ext E₁ p1) (relates-ext E₁ (relates-x10 B)) (relates-ext E₁ (relates-x11 B))
       (den-ext E₁ q0) (den-ext E₁ q1)) λ S₂ e E₂ F₂ E. ret-does _ F₂ (digit-from-1 W e c (n .0) (n .1) E)))))

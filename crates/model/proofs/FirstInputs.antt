@@ -6,10 +6,9 @@ use mathlib.Core.List.{_∷_}
 use mathlib.Core.Bool.{not}
 use Prim.Native.Nat.{ℕ, zero, suc, _+_, _^_, _<_, _≤_, zero-le, min}
 use native.Mathlib.Omega.{arith}
-use native.Mathlib.Decide.{decLt}
-use borrow.Author.Tests.{lt-ltb, eq-eqb, ltb-true}
+use borrow.Author.Tests.{eq-eqb, ltb-true}
 use native.Mathlib.Nat.{pow-suc}
-use lib.Dec.{eqb, ltb, T, eqb→eq, ltb→lt}
+use lib.Dec.{eqb, ltb, T, eqb→eq, ltb→lt, nltb→le}
 use Rattle.model.specs.FirstInputs.{from-halves, first-member-op, first-member, first-input-short, lesser, either-output, if-path}
 use Rattle.model.specs.FirstInputs.{first-input-kids, first-input-node, first-input}
 use Rattle.model.specs.Meaning.{Sem, Rel, Den, Relates, Domain}
@@ -29,12 +28,9 @@ use Rattle.model.proofs.Rules.{Does, den-ext, den-child, held-within, r
 use Rattle.model.proofs.Tests.{den-empty, den-full, den-some, bit-above}
 use Rattle.model.proofs.YesNo.{has-path-does}
 
--- numbers that are not the same, and one that is not less
+-- numbers that are not the same
 not-same : (m n : ℕ) → T (not (eqb m n)) → ¬ (m ≡ n)
 not-same m n t e = rw (eq-eqb m n e) at t
-
-pub not-less : (m n : ℕ) → T (not (ltb m n)) → n ≤ m
-not-less m n t = elim (decLt m n) [ yes i ↦ absurd (rw (lt-ltb m n i) at t) | no i ↦ omega arith ]
 
 module _ {k : ℕ} where
   from-halves-does : {P : Sem} {S : Store} {p q : Prog} (l : ℕ) → Does k S p (λ S h. LeastRank l (λ x. P (0 ∷ x)) h)
@@ -42,7 +38,7 @@ module _ {k : ℕ} where
       → Does k S (from-halves l p q) (λ S h. LeastRank (suc l) P h)
   from-halves-does l A B = bind-does A λ S₁ m E₁ F₁ M. ask-does (less m (2 ^ l)) tt
       (λ t. ret-does m F₁ (least-first-half (ltb→lt m (2 ^ l) t) M))
-      (λ t. bind-does (B S₁ E₁ F₁) λ S₂ n E₂ F₂ N. ret-does _ F₂ (least-second-half (not-less m (2 ^ l) t) M N))
+      (λ t. bind-does (B S₁ E₁ F₁) λ S₂ n E₂ F₂ N. ret-does _ F₂ (least-second-half (nltb→le m (2 ^ l) t) M N))
 
   -- FIRST MEMBER
   pub first-member-does : {P : Sem} {S : Store} (l p : ℕ) → WellFormed k S → l ≤ k → Den set l P S p

@@ -7,7 +7,7 @@ use mathlib.Core.Bool.{Bool, true, false, _&&_}
 use Prim.Native.Nat.{ℕ, zero, suc, _+_, _<_, _≤_}
 use native.Mathlib.Omega.{arith}
 use borrow.Author.Tests.{eq-eqb, ltb-false, le-ltb}
-use lib.Dec.{eqb, ltb, T, eqb→eq}
+use lib.Dec.{eqb, ltb, eqb→eq}
 use lib.ListN.{take, drop, take-append-drop}
 use lib.Seq.{take-at, drop-at}
 use Rattle.model.specs.FieldOrder.{before?, rank, ranked}
@@ -16,7 +16,7 @@ use Rattle.model.specs.Meaning.{Rel, Some}
 use Rattle.model.specs.Packets.{Packet, digits, walk}
 use Rattle.model.specs.Packets as packets
 use Rattle.model.specs.Store.{set, rel, Store, pick}
-use Rattle.model.proofs.Bools.{by-test, no-true, on-bits}
+use Rattle.model.proofs.Bools.{by-test, no-true, one-iff, on-bits}
 use Rattle.model.proofs.FieldOrder.{packet-length, ranked-rank, before-rank}
 
 -- ORDER by ranks
@@ -210,9 +210,6 @@ pair-once {l} {R} {x} {y} {x′} {y′} A B =
     (e, rank-once (A .output) (B .output) (omega arith))
 
 -- the test of a pair is passed by the pairs that it is about
-one-iff : (n : ℕ) → (eqb n 1 ≡ true) ↔ (n ≡ 1)
-one-iff n = (λ e. eqb→eq n 1 (subst T (sym e) tt), eq-eqb n 1)
-
 and-iff : (a b : Bool) {X Y : Type 0} → (a ≡ true) ↔ X → (b ≡ true) ↔ Y → ((a && b) ≡ true) ↔ (X × Y)
 and-iff true b e f = (λ g. (e .0 refl, f .0 g), λ g. f .1 (g .1))
 and-iff false b e f = (λ g. absurd (no-true refl g), λ g. absurd (no-true refl (e .1 (g .0))))

@@ -10,7 +10,7 @@ use lib.Dec.{T}
 use Rattle.model.specs.FirstPair.{first-path, through?, Through}
 use Rattle.model.specs.Meaning.{Rel, Some}
 use Rattle.model.specs.Store.{set}
-use Rattle.model.proofs.Bools.{by-test, no-true}
+use Rattle.model.proofs.Bools.{by-test, no-true, one-iff}
 use Rattle.model.proofs.FirstPair.{PairFinds, pair-finds, through-iff}
 use Rattle.model.proofs.Pairs.{relates-own}
 use Rattle.model.proofs.Rules.{own}
@@ -33,7 +33,6 @@ use Rattle.store.specs.declared.path_reads.PathRead.{PathRead}
 use Rattle.store.specs.declared.path_reads.PathRead.the-variants.{HasPath, FirstPath}
 use Rattle.store.proofs.ImageSteps.{path-steps}
 use Rattle.theorems.specs.FirstPath.{AnswersAlike, AsHasPath}
-use Rattle.theorems.proofs.ReadMeans.{yes}
 
 -- two answers of one shape or of none
 differ : {a b c d : Answer} → ¬ (a ≡ c) → ¬ (b ≡ d) → (a ≡ c) ↔ (b ≡ d)
@@ -78,7 +77,7 @@ module _ (p a q : ℕ) (M : Memories) where
         let t = path-passed F p a q e in
         found-alike l (Through S p a q) (first-path l S p a q) _
         (pair-finds l (Through S p a q) (through? S p a q) (λ x y X Y. through-iff S p a q x y))
-        (Iff·trans (yes _) (has-path-does l p a q F (t .1 .low) (own set S l p (t .0 .held)) (relates-own S l a (t .1 .held))
+        (Iff·trans (one-iff _) (has-path-does l p a q F (t .1 .low) (own set S l p (t .0 .held)) (relates-own S l a (t .1 .held))
         (own set S l q (t .2 .held)) .after .post .means))
 
     has-verdict : (c : PathRead) → ended Declined M (path-verdict c (fields M) (decode M)) .answer ≡ step (path-read c) M .answer

@@ -14,6 +14,7 @@ use Rattle.model.specs.Packets.{packet, number, contains, relates}
 use Rattle.model.specs.Programs.{run}
 use Rattle.model.specs.Store.{set, rel, Store}
 use Rattle.model.specs.WellFormed.{WellFormed}
+use Rattle.model.proofs.Bools.{one-iff}
 use Rattle.model.proofs.FirstPair.{PairFinds, pair-finds, through-iff}
 use Rattle.model.proofs.Numbers.{number-below, packet-number}
 use Rattle.model.proofs.Pairs.{relates-own}
@@ -36,7 +37,7 @@ use Rattle.theorems.proofs.CallMeans.{means}
 use Rattle.call_rules.proofs.Declining.{pair-passed, path-passed}
 use Rattle.store.proofs.ImageMeant.{image-does, filter-does}
 use Rattle.store.proofs.ImageSteps.{image-steps, filter-steps, path-steps}
-use Rattle.theorems.proofs.ReadMeans.{GivesOnly, gives-by, answer-has, yes}
+use Rattle.theorems.proofs.ReadMeans.{GivesOnly, gives-by, answer-has}
 
 -- what is found is answered by its numbers
 found-pair : (l : ℕ) (R : Rel) (o : Option (List ℕ)) → PairFinds l R o → the-first-pair l R (as-pair l o)
@@ -60,11 +61,11 @@ module _ {k : ℕ} {S : Store} (F : WellFormed k S) where
   path-passes (HasImage p a) l e =
       let t = pair-passed F rel set a p e in
       subst (λ j. (eqb (run (has-image l p a) S .value) 1 ≡ true) ↔ Some j (λ x. Some j (λ y. contains S p x × relates S a x y))) (sym (t .0 .level))
-      (Iff·trans (yes _) (has-image-does l p a F (t .0 .low) (own set S l p (t .1 .held)) (relates-own S l a (t .0 .held)) .after .post .means))
+      (Iff·trans (one-iff _) (has-image-does l p a F (t .0 .low) (own set S l p (t .1 .held)) (relates-own S l a (t .0 .held)) .after .post .means))
   path-passes (HasPath p a q) l e =
       let t = path-passed F p a q e in
       subst (λ j. (eqb (run (has-path l p a q) S .value) 1 ≡ true) ↔ Some j (λ x. Some j (λ y. contains S p x × relates S a x y × contains S q y)))
-      (sym (t .1 .level)) (Iff·trans (yes _) (has-path-does l p a q F (t .1 .low)
+      (sym (t .1 .level)) (Iff·trans (one-iff _) (has-path-does l p a q F (t .1 .low)
       (own set S l p (t .0 .held)) (relates-own S l a (t .1 .held)) (own set S l q (t .2 .held)) .after .post .means))
   path-passes (FirstPath p a q) l e =
       let t = path-passed F p a q e in

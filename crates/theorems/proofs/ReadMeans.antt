@@ -6,7 +6,6 @@ use mathlib.Core.Bool.{true}
 use Prim.Native.Nat.{ℕ, suc}
 use native.Mathlib.Omega.{arith}
 use lib.Dec.{ltb, eqb, T}
-use borrow.Author.Tests.{eq-eqb}
 use Rattle.model.specs.Meaning.{Den, Some}
 use Rattle.model.specs.Operations.{complement, is-zero}
 use Rattle.model.specs.Sets.{intersects}
@@ -15,7 +14,7 @@ use Rattle.model.specs.Programs.{run}
 use Rattle.model.specs.Recursion.{x0, x1, x00, x01, x10, x11}
 use Rattle.model.specs.Store.{set, rel, Store, signed, get}
 use Rattle.model.specs.WellFormed.{Held, WellFormed}
-use Rattle.model.proofs.Bools.{eqb-iff}
+use Rattle.model.proofs.Bools.{one-iff}
 use Rattle.model.proofs.Pairs.{relates-den, relates-own, relates-iff, digits-of, relates-x00, relates-x01, relates-x10, relates-x11}
 use Rattle.model.proofs.Pointwise.{complement-does}
 use Rattle.model.proofs.Rules.{own, den-child}
@@ -64,10 +63,6 @@ module _ {A : Type 0} (refuse : Refusal → A) (v : ℕ → Store → Verdict A)
   pub answer-has : P (on-store refuse v M .answer) × (on-store refuse v M .state ≡ M)
   answer-has =
       subst (λ t. P (t .answer) × (t .state ≡ M)) (sym (store-outcome refuse v M s (v (fields M) (decode M)) refl)) (by-verdict (v (fields M) (decode M)) t)
-
--- a yes is 1
-pub yes : (n : ℕ) → (eqb n 1 ≡ true) ↔ (n ≡ 1)
-yes n = (λ e. eqb-iff n 1 .0 (subst T (sym e) tt), eq-eqb n 1)
 
 -- no list of digits, or no pair of packets
 no-pair : (S : Store) (l a : ℕ) → Held rel S l a
@@ -123,11 +118,11 @@ module _ {k : ℕ} {S : Store} (F : WellFormed k S) where
   set-read-passes (T.IsZero a) l e =
       let t = one-passed F set a e in
       subst (λ j. (eqb (run (is-zero set l a) S .value) 1 ≡ true) ↔ ((p : List ℕ) → Packet j p → ¬ contains S a p)) (sym (t .level))
-      (Iff·trans (yes _) (is-zero-does set l a F (own set S l a (t .held)) .after .post .means))
+      (Iff·trans (one-iff _) (is-zero-does set l a F (own set S l a (t .held)) .after .post .means))
   set-read-passes (T.Intersects a b) l e =
       let t = two-passed F set a b e in
       subst (λ j. (eqb (run (intersects l a b) S .value) 1 ≡ true) ↔ Some j (λ p. contains S a p × contains S b p)) (sym (t .0 .level))
-      (Iff·trans (yes _) (intersects-does l a b F (t .0 .low) (own set S l a (t .0 .held)) (own set S l b (t .1 .held)) .after .post .means))
+      (Iff·trans (one-iff _) (intersects-does l a b F (t .0 .low) (own set S l a (t .0 .held)) (own set S l b (t .1 .held)) .after .post .means))
 
   relation-read-passes : (c : RelationRead) (l : ℕ) → relation-read-declines k c S ≡ Level l → relation-read-meaning k c S (relation-read-answer S l c)
   unfolding relation-read-meaning
@@ -139,10 +134,10 @@ module _ {k : ℕ} {S : Store} (F : WellFormed k S) where
   relation-read-passes (R.IsZero a) l e =
       let t = one-passed F rel a e in
       subst (λ j. (eqb (run (is-zero rel l a) S .value) 1 ≡ true) ↔ ((p q : List ℕ) → Packet j p → Packet j q → ¬ relates S a p q)) (sym (t .level))
-      (Iff·trans (yes _) (Iff·trans (is-zero-does rel l a F (own rel S l a (t .held)) .after .post .means) (no-pair S l a (t .held))))
+      (Iff·trans (one-iff _) (Iff·trans (is-zero-does rel l a F (own rel S l a (t .held)) .after .post .means) (no-pair S l a (t .held))))
   relation-read-passes (R.Relates a p q) l e =
       let t = one-passed F rel a (also-passed _ _ _ (also-passed _ _ _ e .0) .0) in
-      subst (λ j. (eqb (walk rel S a (digits (packet l p) (packet l q))) 1 ≡ true) ↔ relates S a (packet j p) (packet j q)) (sym (t .level)) (yes _)
+      subst (λ j. (eqb (walk rel S a (digits (packet l p) (packet l q))) 1 ≡ true) ↔ relates S a (packet j p) (packet j q)) (sym (t .level)) (one-iff _)
 
   pub set-read-gives : (c : SetRead) → GivesOnly (set-read-meaning k c S) (set-read-verdict c k S)
   set-read-gives c = gives-by (set-read-meaning k c S) (set-read-declines k c S) (λ l. set-read-answer S l c) (set-read-refused c) (set-read-passes c)
