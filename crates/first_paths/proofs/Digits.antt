@@ -13,24 +13,24 @@ use Rattle.memory.proofs.OtherNodes.{read-of-other}
 use Rattle.memory.proofs.Steps.{performs-then, begin, by, looked, performs-ret, performs-less, performs-not-less}
 
 -- OUTPUT_BIT: x and y give ranks of level l
-abbrev bit-of : ℕ → Prog → Prog → Prog
-bit-of l x y = x >>= λ m. y >>= λ n. ask (less n m) (ret 1) (ask (less m (2 ^ l)) (ret 0) (ret 2))
+abbrev which-bit : ℕ → Prog → Prog → Prog
+which-bit l x y = x >>= λ m. y >>= λ n. ask (less n m) (ret 1) (ask (less m (2 ^ l)) (ret 0) (ret 2))
 
-pub bit-is : (l p a b q0 q1 : ℕ) → output-bit l p a b q0 q1 ≡ bit-of l (first-input l p a q0) (first-input l p b q1)
+pub bit-is : (l p a b q0 q1 : ℕ) → output-bit l p a b q0 q1 ≡ which-bit l (first-input l p a q0) (first-input l p b q1)
 unfolding output-bit
 bit-is l p a b q0 q1 = refl
 
 module _ {Q : Condition} {K : Kind} (l : ℕ) {x y : Prog} {s r t z : RunState} {m m₁ m₂ w w₁ w₂ : List ℕ} (d : PerformsOn Q K x s m m₁ w w₁ r)
     (e : PerformsOn Q K y r m₁ m₂ w₁ w₂ t) where
-  pub one-first : t .h < r .h → z ≡ run-state (t .ok) (t .n) 1 → PerformsOn Q K (bit-of l x y) s m m₂ w w₂ z
+  pub one-first : t .h < r .h → z ≡ run-state (t .ok) (t .n) 1 → PerformsOn Q K (which-bit l x y) s m m₂ w w₂ z
   one-first i f = performs-then d (performs-then e (performs-less (t .h) (r .h) (lt-ltb _ _ i) (performs-ret 1 f)))
 
   module _ {none : ℕ} (i : r .h ≤ t .h) (k : none ≡ 2 ^ l) where
-    pub zero-first : r .h < none → z ≡ run-state (t .ok) (t .n) 0 → PerformsOn Q K (bit-of l x y) s m m₂ w w₂ z
+    pub zero-first : r .h < none → z ≡ run-state (t .ok) (t .n) 0 → PerformsOn Q K (which-bit l x y) s m m₂ w w₂ z
     zero-first g f = performs-then d (performs-then e (performs-not-less (t .h) (r .h) (le-ltb _ _ i)
         (performs-less (r .h) (2 ^ l) (lt-ltb _ _ (subst (λ n. r .h < n) k g)) (performs-ret 0 f))))
 
-    pub none-first : none ≤ r .h → z ≡ run-state (t .ok) (t .n) 2 → PerformsOn Q K (bit-of l x y) s m m₂ w w₂ z
+    pub none-first : none ≤ r .h → z ≡ run-state (t .ok) (t .n) 2 → PerformsOn Q K (which-bit l x y) s m m₂ w w₂ z
     none-first g f = performs-then d (performs-then e (performs-not-less (t .h) (r .h) (le-ltb _ _ i)
         (performs-not-less (r .h) (2 ^ l) (le-ltb _ _ (subst (λ n. n ≤ r .h) k g)) (performs-ret 2 f))))
 

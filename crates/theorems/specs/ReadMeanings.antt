@@ -8,7 +8,7 @@ use Rattle.model.specs.Store.{set, rel, Store}
 use Rattle.model.specs.Packets.{Packet, packet, contains, relates}
 use Rattle.model.specs.WellFormed.{level-of}
 use Rattle.model.specs.Meaning.{Rel, Den, Relates as Pairs, Some}
-use Rattle.model.specs.FirstPair.{FirstPair}
+use Rattle.model.specs.FirstPair.{Through, FirstPair}
 use Rattle.call_rules.specs.declared.Answer.{Answer}
 use Rattle.call_rules.specs.declared.Answer.the-variants.{Handle, Truth, SetNode, RelationNode, Declined, Pair, Nothing}
 use Rattle.store.specs.declared.path_reads.PathRead.{PathRead}
@@ -102,4 +102,4 @@ unfoldable pub path-meaning : ℕ → PathRead → Store → Answer → Type 0
 path-meaning k (HasImage p a) S = (let l = level-of k rel S a in yes-where (Some l (λ x. Some l (λ y. contains S p x × relates S a x y))))
 path-meaning k (HasPath p a q) S =
     (let l = level-of k rel S a in yes-where (Some l (λ x. Some l (λ y. contains S p x × relates S a x y × contains S q y))))
-path-meaning k (FirstPath p a q) S = (let l = level-of k rel S a in the-first-pair l (λ x y. contains S p x × relates S a x y × contains S q y))
+path-meaning k (FirstPath p a q) S = the-first-pair (level-of k rel S a) (Through S p a q)
