@@ -16,7 +16,8 @@ static uint32_t relations[RELATIONS_LEN], sets[SETS_LEN], work[WORK_LEN];
 
 /* Begins the store; a refusal ends the program. */
 static void begin(uint32_t k) {
-    uint32_t refusal = PACKET_STORE_REFUSAL(packet_store_new(relations, RELATIONS_LEN, sets, SETS_LEN, work, WORK_LEN, k));
+    packet_store_reply reply = packet_store_new(relations, RELATIONS_LEN, sets, SETS_LEN, work, WORK_LEN, k);
+    uint32_t refusal = PACKET_STORE_REFUSAL(reply.answer);
     if (refusal != 0) {
         printf("refused: %s\n", packet_store_refusal_text(refusal));
         exit(2);
@@ -31,9 +32,9 @@ static int has_offset(uint32_t refusal) {
 
 /* The handle of a table; a refusal ends the program. */
 static uint32_t judge(const char *table) {
-    uint64_t answer = packet_store_policy(relations, RELATIONS_LEN, sets, SETS_LEN, work, WORK_LEN,
-                                          (const uint8_t *)table, strlen(table));
-    uint32_t refusal = PACKET_STORE_REFUSAL(answer), value = PACKET_STORE_VALUE(answer);
+    packet_store_reply reply = packet_store_policy(relations, RELATIONS_LEN, sets, SETS_LEN, work, WORK_LEN,
+                                                   (const uint8_t *)table, strlen(table));
+    uint32_t refusal = PACKET_STORE_REFUSAL(reply.answer), value = PACKET_STORE_VALUE(reply.answer);
     if (refusal == 0) {
         return value;
     }

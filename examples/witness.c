@@ -37,7 +37,7 @@ static uint32_t value_of(uint64_t answer, int of_policy) {
 
 /* The handle of a table. */
 static uint32_t judge(const char *table) {
-    return value_of(packet_store_policy(LENT, (const uint8_t *)table, strlen(table)), 1);
+    return value_of(packet_store_policy(LENT, (const uint8_t *)table, strlen(table)).answer, 1);
 }
 
 /* Prints a header's bits, field 0 first; a header of no fields is a dash. */
@@ -52,12 +52,12 @@ static void print_header(uint32_t header, uint32_t k) {
 
 /* Prints the first pair that one table alone relates. */
 static void print_witness(uint32_t k, uint32_t one, uint32_t other) {
-    uint64_t differing = packet_store_relation_xor(LENT, one, other);
+    uint64_t differing = packet_store_relation_xor(LENT, one, other).answer;
     if (PACKET_STORE_REFUSAL(differing) == PACKET_STORE_USED_UP) {
         puts("different, with no places left to say where");
         return;
     }
-    uint32_t all = value_of(packet_store_set_one(LENT), 0);
+    uint32_t all = value_of(packet_store_set_one(LENT).answer, 0);
     packet_store_pair pair = packet_store_relation_first_path(LENT, all, value_of(differing, 0), all);
     /* Two handles of one store differ, so there is a pair. */
     value_of(pair.answer, 0);
@@ -76,7 +76,7 @@ int main(int count, char **words) {
         fprintf(stderr, "usage: witness K TABLE TABLE\n");
         return 2;
     }
-    value_of(packet_store_new(LENT, (uint32_t)k), 0);
+    value_of(packet_store_new(LENT, (uint32_t)k).answer, 0);
     uint32_t one = judge(words[2]);
     uint32_t other = judge(words[3]);
     if (one == other) {

@@ -28,14 +28,18 @@
  * 2 * (j + 1), and the odd handle after it is its complement. Relation handles 0 and 1 are the empty and the full
  * relation of level 0; the relation node at place i has handle i + 2.
  *
- * ANSWER. Each function returns one number: in its high half the refusal's number, 0 where the call was
- * accepted; in its low half the handle, 1 or 0 for yes or no, the first child, or 0 where the call was refused. A policy
- * that is refused with 5, 7, 8 or 9 has an offset in its text there. packet_store_relation_first_path returns a struct that
- * has this number and a pair of packets.
+ * ANSWER. An answer is one number: in its high half the refusal's number, 0 where the call was accepted; in its low half
+ * the handle, 1 or 0 for yes or no, the first child, or 0 where the call was refused. A policy that is refused with 5, 7, 8
+ * or 9 has an offset in its text there. A function that may add nodes returns a struct, packet_store_reply: its answer, and
+ * the relation nodes and set nodes that the call added. One that adds nothing returns its answer alone, but for
+ * packet_store_relation_first_path, which returns a pair of packets beside it.
  *
  *   1 not a store           2 handle not held     3 levels differ     4 no children there
  *   5 number out of range   6 places used up      7 not a policy      8 `!` over a non-predicate
  *   9 nested too deep      10 text too long
+ *
+ * A call may give an old handle and still have added nodes (k = 1: the text x0=0+x0=1 gives 3 and adds 2 relation nodes),
+ * so whether nodes were added is not read off the handle.
  *
  * A refused call changes neither relations nor sets. Every call, refused or not, leaves work all zeros.
  * Where several refusals apply, the first in the function's list is returned. Refusal 1 covers both memories:
@@ -99,59 +103,71 @@ static inline const char *packet_store_refusal_text(uint32_t refusal) {
 #define PACKET_STORE_REFUSAL(answer) ((uint32_t)((answer) >> 32))
 #define PACKET_STORE_VALUE(answer) ((uint32_t)(answer))
 
+/*
+ * An answer, and how much its call added: relations is the count of relation nodes held after the call less that before it,
+ * sets that of set nodes. For packet_store_new they are the counts after it, 3k and k. Both are 0 beside any refusal.
+ */
+typedef struct packet_store_reply {
+    uint64_t answer;
+    uint32_t relations;
+    uint32_t sets;
+} packet_store_reply;
+
 /* CREATION */
 
 /*
  * Begins a store of k fields in both memories, whatever they held: 3k relation nodes and k set nodes, the other
  * places zeroed. Refuses: 5 if k > 32; 1 if relations or sets has fewer numbers than its head; 6 if relations
- * has fewer than 3k places or sets fewer than k. Returns the full relation of level k: 3k + 1, or 1 at k = 0.
+ * has fewer than 3k places or sets fewer than k. Returns the full relation of level k: 3k + 1, or 1 at k = 0; and the nodes
+ * that the store holds, 3k and k.
  */
-uint64_t packet_store_new(uint32_t *relations, size_t relations_len, uint32_t *sets, size_t sets_len,
-                          uint32_t *work, size_t work_len, uint32_t k);
+packet_store_reply packet_store_new(uint32_t *relations, size_t relations_len, uint32_t *sets, size_t sets_len,
+                                    uint32_t *work, size_t work_len, uint32_t k);
 
-/* SETS: CALLS THAT MAY ADD NODES. Each returns the handle of a set. */
+/* SETS: CALLS THAT MAY ADD SET NODES. Each returns the handle of a set, and the nodes added. */
 
 /*
  * The set of packets whose field 0 is 0 and whose other fields are in x0, or whose field 0 is 1 and whose others are in x1.
+ * The reply's sets is 1 where the call appended a node for it and 0 where it was held.
  * Refuses: 1; 2 if x0 or x1 is not held; 3 if their levels differ; 5 if their level is k; 6.
  */
-uint64_t packet_store_set_mk(const uint32_t *relations, size_t relations_len, uint32_t *sets, size_t sets_len,
-                             uint32_t *work, size_t work_len, uint32_t x0, uint32_t x1);
+packet_store_reply packet_store_set_mk(const uint32_t *relations, size_t relations_len, uint32_t *sets, size_t sets_len,
+                                       uint32_t *work, size_t work_len, uint32_t x0, uint32_t x1);
 
 /* The empty set of level k. Refuses: 1; 6. */
-uint64_t packet_store_set_zero(const uint32_t *relations, size_t relations_len, uint32_t *sets, size_t sets_len,
-                               uint32_t *work, size_t work_len);
+packet_store_reply packet_store_set_zero(const uint32_t *relations, size_t relations_len, uint32_t *sets, size_t sets_len,
+                                         uint32_t *work, size_t work_len);
 
 /* The full set of level k. Refuses: 1; 6. */
-uint64_t packet_store_set_one(const uint32_t *relations, size_t relations_len, uint32_t *sets, size_t sets_len,
-                              uint32_t *work, size_t work_len);
+packet_store_reply packet_store_set_one(const uint32_t *relations, size_t relations_len, uint32_t *sets, size_t sets_len,
+                                        uint32_t *work, size_t work_len);
 
 /* The packets in a or in b. Refuses: 1; 2 if a or b is not held; 3 if their levels differ; 6. */
-uint64_t packet_store_set_union(const uint32_t *relations, size_t relations_len, uint32_t *sets, size_t sets_len,
-                                uint32_t *work, size_t work_len, uint32_t a, uint32_t b);
+packet_store_reply packet_store_set_union(const uint32_t *relations, size_t relations_len, uint32_t *sets, size_t sets_len,
+                                          uint32_t *work, size_t work_len, uint32_t a, uint32_t b);
 
 /* The packets in a and in b. Refuses as packet_store_set_union. */
-uint64_t packet_store_set_intersect(const uint32_t *relations, size_t relations_len, uint32_t *sets, size_t sets_len,
-                                    uint32_t *work, size_t work_len, uint32_t a, uint32_t b);
+packet_store_reply packet_store_set_intersect(const uint32_t *relations, size_t relations_len, uint32_t *sets, size_t sets_len,
+                                              uint32_t *work, size_t work_len, uint32_t a, uint32_t b);
 
 /* The packets in exactly one of a and b. Refuses as packet_store_set_union. */
-uint64_t packet_store_set_xor(const uint32_t *relations, size_t relations_len, uint32_t *sets, size_t sets_len,
-                              uint32_t *work, size_t work_len, uint32_t a, uint32_t b);
+packet_store_reply packet_store_set_xor(const uint32_t *relations, size_t relations_len, uint32_t *sets, size_t sets_len,
+                                        uint32_t *work, size_t work_len, uint32_t a, uint32_t b);
 
 /* The packets in a and not in b. Refuses as packet_store_set_union. */
-uint64_t packet_store_set_difference(const uint32_t *relations, size_t relations_len, uint32_t *sets, size_t sets_len,
-                                     uint32_t *work, size_t work_len, uint32_t a, uint32_t b);
+packet_store_reply packet_store_set_difference(const uint32_t *relations, size_t relations_len, uint32_t *sets, size_t sets_len,
+                                               uint32_t *work, size_t work_len, uint32_t a, uint32_t b);
 
 /* The packets of level k whose field var has this value, 0 or 1. Refuses: 1; 5 if var is k or more, or value above 1; 6. */
-uint64_t packet_store_set_test(const uint32_t *relations, size_t relations_len, uint32_t *sets, size_t sets_len,
-                               uint32_t *work, size_t work_len, uint32_t var, uint32_t value);
+packet_store_reply packet_store_set_test(const uint32_t *relations, size_t relations_len, uint32_t *sets, size_t sets_len,
+                                         uint32_t *work, size_t work_len, uint32_t var, uint32_t value);
 
 /*
  * The packets of then_branch whose field var is 1 and those of else_branch whose field var is 0. Refuses: 1; 5 if var is k
  * or more; 2 if a branch is not held; 3 if their levels differ; 4 if their level is not above var; 6.
  */
-uint64_t packet_store_set_ifelse(const uint32_t *relations, size_t relations_len, uint32_t *sets, size_t sets_len,
-                                 uint32_t *work, size_t work_len, uint32_t var, uint32_t then_branch, uint32_t else_branch);
+packet_store_reply packet_store_set_ifelse(const uint32_t *relations, size_t relations_len, uint32_t *sets, size_t sets_len,
+                                           uint32_t *work, size_t work_len, uint32_t var, uint32_t then_branch, uint32_t else_branch);
 
 /* SETS: CALLS THAT ADD NOTHING. They never refuse with 6. */
 
@@ -175,77 +191,81 @@ uint64_t packet_store_set_is_zero(const uint32_t *relations, size_t relations_le
 uint64_t packet_store_set_intersects(const uint32_t *relations, size_t relations_len, const uint32_t *sets, size_t sets_len,
                                      uint32_t *work, size_t work_len, uint32_t a, uint32_t b);
 
-/* RELATIONS: CALLS THAT MAY ADD NODES. Each returns the handle of a relation. */
+/* RELATIONS: CALLS THAT MAY ADD RELATION NODES. Each returns the handle of a relation, and the nodes added. */
 
 /*
  * The relation of the pairs whose input has i in field 0, whose output has o there and whose other fields x_io relates.
+ * The reply's relations is 1 where the call appended a node for it and 0 where it was held.
  * Refuses: 1; 2 if a child is not held; 3 if their levels differ; 5 if their level is k; 6.
  */
-uint64_t packet_store_relation_mk(uint32_t *relations, size_t relations_len, const uint32_t *sets, size_t sets_len,
-                                  uint32_t *work, size_t work_len, uint32_t x00, uint32_t x01, uint32_t x10, uint32_t x11);
+packet_store_reply packet_store_relation_mk(uint32_t *relations, size_t relations_len, const uint32_t *sets, size_t sets_len,
+                                            uint32_t *work, size_t work_len, uint32_t x00, uint32_t x01, uint32_t x10, uint32_t x11);
 
 /* The empty relation of level k. Refuses: 1; 6. */
-uint64_t packet_store_relation_zero(uint32_t *relations, size_t relations_len, const uint32_t *sets, size_t sets_len,
-                                    uint32_t *work, size_t work_len);
+packet_store_reply packet_store_relation_zero(uint32_t *relations, size_t relations_len, const uint32_t *sets, size_t sets_len,
+                                              uint32_t *work, size_t work_len);
 
 /* The identity of level k: each packet related to itself alone. Refuses: 1; 6. */
-uint64_t packet_store_relation_one(uint32_t *relations, size_t relations_len, const uint32_t *sets, size_t sets_len,
-                                   uint32_t *work, size_t work_len);
+packet_store_reply packet_store_relation_one(uint32_t *relations, size_t relations_len, const uint32_t *sets, size_t sets_len,
+                                             uint32_t *work, size_t work_len);
 
 /* The full relation of level k. Refuses: 1; 6. */
-uint64_t packet_store_relation_top(uint32_t *relations, size_t relations_len, const uint32_t *sets, size_t sets_len,
-                                   uint32_t *work, size_t work_len);
+packet_store_reply packet_store_relation_top(uint32_t *relations, size_t relations_len, const uint32_t *sets, size_t sets_len,
+                                             uint32_t *work, size_t work_len);
 
 /* The pairs in a or in b. Refuses: 1; 2 if a or b is not held; 3 if their levels differ; 6. */
-uint64_t packet_store_relation_union(uint32_t *relations, size_t relations_len, const uint32_t *sets, size_t sets_len,
-                                     uint32_t *work, size_t work_len, uint32_t a, uint32_t b);
+packet_store_reply packet_store_relation_union(uint32_t *relations, size_t relations_len, const uint32_t *sets, size_t sets_len,
+                                               uint32_t *work, size_t work_len, uint32_t a, uint32_t b);
 
 /* The pairs in a and in b. Refuses as packet_store_relation_union. */
-uint64_t packet_store_relation_intersect(uint32_t *relations, size_t relations_len, const uint32_t *sets, size_t sets_len,
-                                         uint32_t *work, size_t work_len, uint32_t a, uint32_t b);
+packet_store_reply packet_store_relation_intersect(uint32_t *relations, size_t relations_len, const uint32_t *sets, size_t sets_len,
+                                                   uint32_t *work, size_t work_len, uint32_t a, uint32_t b);
 
 /* The pairs in exactly one of a and b. Refuses as packet_store_relation_union. */
-uint64_t packet_store_relation_xor(uint32_t *relations, size_t relations_len, const uint32_t *sets, size_t sets_len,
-                                   uint32_t *work, size_t work_len, uint32_t a, uint32_t b);
+packet_store_reply packet_store_relation_xor(uint32_t *relations, size_t relations_len, const uint32_t *sets, size_t sets_len,
+                                             uint32_t *work, size_t work_len, uint32_t a, uint32_t b);
 
 /* The pairs in a and not in b. Refuses as packet_store_relation_union. */
-uint64_t packet_store_relation_difference(uint32_t *relations, size_t relations_len, const uint32_t *sets, size_t sets_len,
-                                          uint32_t *work, size_t work_len, uint32_t a, uint32_t b);
+packet_store_reply packet_store_relation_difference(uint32_t *relations, size_t relations_len,
+                                                    const uint32_t *sets, size_t sets_len,
+                                                    uint32_t *work, size_t work_len, uint32_t a, uint32_t b);
 
 /* The pairs of a's level that are not in a. Refuses: 1; 2 if a is not held; 6. */
-uint64_t packet_store_relation_complement(uint32_t *relations, size_t relations_len, const uint32_t *sets, size_t sets_len,
-                                          uint32_t *work, size_t work_len, uint32_t a);
+packet_store_reply packet_store_relation_complement(uint32_t *relations, size_t relations_len,
+                                                    const uint32_t *sets, size_t sets_len,
+                                                    uint32_t *work, size_t work_len, uint32_t a);
 
 /* The pairs of an input of a and an output of b with a packet between them. Refuses as packet_store_relation_union. */
-uint64_t packet_store_relation_sequence(uint32_t *relations, size_t relations_len, const uint32_t *sets, size_t sets_len,
-                                        uint32_t *work, size_t work_len, uint32_t a, uint32_t b);
+packet_store_reply packet_store_relation_sequence(uint32_t *relations, size_t relations_len, const uint32_t *sets, size_t sets_len,
+                                                  uint32_t *work, size_t work_len, uint32_t a, uint32_t b);
 
 /* The pairs that any finite number of steps of a relates, none included. Refuses as packet_store_relation_complement. */
-uint64_t packet_store_relation_star(uint32_t *relations, size_t relations_len, const uint32_t *sets, size_t sets_len,
-                                    uint32_t *work, size_t work_len, uint32_t a);
+packet_store_reply packet_store_relation_star(uint32_t *relations, size_t relations_len, const uint32_t *sets, size_t sets_len,
+                                              uint32_t *work, size_t work_len, uint32_t a);
 
 /* The pairs of a with input and output exchanged. Refuses as packet_store_relation_complement. */
-uint64_t packet_store_relation_flip(uint32_t *relations, size_t relations_len, const uint32_t *sets, size_t sets_len,
-                                    uint32_t *work, size_t work_len, uint32_t a);
+packet_store_reply packet_store_relation_flip(uint32_t *relations, size_t relations_len, const uint32_t *sets, size_t sets_len,
+                                              uint32_t *work, size_t work_len, uint32_t a);
 
 /*
  * Each packet of level k whose field var has this value, 0 or 1, related to itself. Refuses: 1; 5 if var is k or more, or
  * value above 1; 6.
  */
-uint64_t packet_store_relation_test(uint32_t *relations, size_t relations_len, const uint32_t *sets, size_t sets_len,
-                                    uint32_t *work, size_t work_len, uint32_t var, uint32_t value);
+packet_store_reply packet_store_relation_test(uint32_t *relations, size_t relations_len, const uint32_t *sets, size_t sets_len,
+                                              uint32_t *work, size_t work_len, uint32_t var, uint32_t value);
 
 /* Each packet of level k related to itself with this value in field var. Refuses as packet_store_relation_test. */
-uint64_t packet_store_relation_assign(uint32_t *relations, size_t relations_len, const uint32_t *sets, size_t sets_len,
-                                      uint32_t *work, size_t work_len, uint32_t var, uint32_t value);
+packet_store_reply packet_store_relation_assign(uint32_t *relations, size_t relations_len, const uint32_t *sets, size_t sets_len,
+                                                uint32_t *work, size_t work_len, uint32_t var, uint32_t value);
 
 /* Every packet related to each output of a: the full relation, then a. Refuses as packet_store_relation_complement. */
-uint64_t packet_store_relation_naive_forward(uint32_t *relations, size_t relations_len, const uint32_t *sets, size_t sets_len,
-                                             uint32_t *work, size_t work_len, uint32_t a);
+packet_store_reply packet_store_relation_naive_forward(uint32_t *relations, size_t relations_len,
+                                                       const uint32_t *sets, size_t sets_len,
+                                                       uint32_t *work, size_t work_len, uint32_t a);
 
 /* Each input of a related to every packet: a, then the full relation. Refuses as packet_store_relation_complement. */
-uint64_t packet_store_relation_backward(uint32_t *relations, size_t relations_len, const uint32_t *sets, size_t sets_len,
-                                        uint32_t *work, size_t work_len, uint32_t a);
+packet_store_reply packet_store_relation_backward(uint32_t *relations, size_t relations_len, const uint32_t *sets, size_t sets_len,
+                                                  uint32_t *work, size_t work_len, uint32_t a);
 
 /* RELATIONS: CALLS THAT ADD NOTHING. They never refuse with 6. */
 
@@ -265,40 +285,40 @@ uint64_t packet_store_relation_is_zero(const uint32_t *relations, size_t relatio
 uint64_t packet_store_relation_relates(const uint32_t *relations, size_t relations_len, const uint32_t *sets, size_t sets_len,
                                        uint32_t *work, size_t work_len, uint32_t a, uint32_t input, uint32_t output);
 
-/* RELATIONS AND SETS: CALLS THAT MAY ADD SET NODES. Each returns the handle of a set; a is a relation, p a set. */
+/* RELATIONS AND SETS: CALLS THAT MAY ADD SET NODES. Each returns the handle of a set, and the nodes added; a is a relation, p a set. */
 
 /* The packets that a relates some packet to: its range. Refuses: 1; 2 if a is not held; 6. */
-uint64_t packet_store_relation_fwd(const uint32_t *relations, size_t relations_len, uint32_t *sets, size_t sets_len,
-                                   uint32_t *work, size_t work_len, uint32_t a);
+packet_store_reply packet_store_relation_fwd(const uint32_t *relations, size_t relations_len, uint32_t *sets, size_t sets_len,
+                                             uint32_t *work, size_t work_len, uint32_t a);
 
 /* The packets that a relates to some packet: its domain. Refuses as packet_store_relation_fwd. */
-uint64_t packet_store_relation_bwd(const uint32_t *relations, size_t relations_len, uint32_t *sets, size_t sets_len,
-                                   uint32_t *work, size_t work_len, uint32_t a);
+packet_store_reply packet_store_relation_bwd(const uint32_t *relations, size_t relations_len, uint32_t *sets, size_t sets_len,
+                                             uint32_t *work, size_t work_len, uint32_t a);
 
 /* The packets that a relates some packet of p to. Refuses: 1; 2 if p or a is not held; 3 if their levels differ; 6. */
-uint64_t packet_store_relation_push(const uint32_t *relations, size_t relations_len, uint32_t *sets, size_t sets_len,
-                                    uint32_t *work, size_t work_len, uint32_t p, uint32_t a);
+packet_store_reply packet_store_relation_push(const uint32_t *relations, size_t relations_len, uint32_t *sets, size_t sets_len,
+                                              uint32_t *work, size_t work_len, uint32_t p, uint32_t a);
 
 /* The packets that a relates to some packet of p. Refuses as packet_store_relation_push. */
-uint64_t packet_store_relation_pull(const uint32_t *relations, size_t relations_len, uint32_t *sets, size_t sets_len,
-                                    uint32_t *work, size_t work_len, uint32_t a, uint32_t p);
+packet_store_reply packet_store_relation_pull(const uint32_t *relations, size_t relations_len, uint32_t *sets, size_t sets_len,
+                                              uint32_t *work, size_t work_len, uint32_t a, uint32_t p);
 
-/* RELATIONS AND SETS: CALLS THAT MAY ADD RELATION NODES. Each returns the handle of a relation; p is a set. */
+/* RELATIONS AND SETS: CALLS THAT MAY ADD RELATION NODES. Each returns the handle of a relation, and the nodes added; p is a set. */
 
 /* Each packet of p related to itself. Refuses: 1; 2 if p is not held; 6. */
-uint64_t packet_store_relation_diagonal(uint32_t *relations, size_t relations_len, const uint32_t *sets, size_t sets_len,
-                                        uint32_t *work, size_t work_len, uint32_t p);
+packet_store_reply packet_store_relation_diagonal(uint32_t *relations, size_t relations_len, const uint32_t *sets, size_t sets_len,
+                                                  uint32_t *work, size_t work_len, uint32_t p);
 
 /* Every packet of p's level related to each packet of p. Refuses as packet_store_relation_diagonal. */
-uint64_t packet_store_relation_ifwd(uint32_t *relations, size_t relations_len, const uint32_t *sets, size_t sets_len,
-                                    uint32_t *work, size_t work_len, uint32_t p);
+packet_store_reply packet_store_relation_ifwd(uint32_t *relations, size_t relations_len, const uint32_t *sets, size_t sets_len,
+                                              uint32_t *work, size_t work_len, uint32_t p);
 
 /*
  * Each packet of p related to every packet of p's level. Refuses as packet_store_relation_diagonal.
  * packet_store_relation_bwd of the answer, where it is accepted, is p again.
  */
-uint64_t packet_store_relation_ibwd(uint32_t *relations, size_t relations_len, const uint32_t *sets, size_t sets_len,
-                                    uint32_t *work, size_t work_len, uint32_t p);
+packet_store_reply packet_store_relation_ibwd(uint32_t *relations, size_t relations_len, const uint32_t *sets, size_t sets_len,
+                                              uint32_t *work, size_t work_len, uint32_t p);
 
 /* RELATIONS AND SETS: CALLS THAT ADD NOTHING. They never refuse with 6; a is a relation, p and q are sets. */
 
@@ -352,8 +372,8 @@ packet_store_pair packet_store_relation_first_path(const uint32_t *relations, si
  * ends too soon, or 9 at the first ( or ! inside 32 others, whichever offset is lower; 5 at the first x whose N is k or
  * more; 8 at the first ! over := or *; 6. With 5, 7, 8 and 9 the low half is the offset, with 1, 6 and 10 it is 0.
  */
-uint64_t packet_store_policy(uint32_t *relations, size_t relations_len, const uint32_t *sets, size_t sets_len,
-                             uint32_t *work, size_t work_len, const uint8_t *text, size_t text_len);
+packet_store_reply packet_store_policy(uint32_t *relations, size_t relations_len, const uint32_t *sets, size_t sets_len,
+                                       uint32_t *work, size_t work_len, const uint8_t *text, size_t text_len);
 
 #ifdef __cplusplus
 }

@@ -28,17 +28,21 @@ LANGUAGE = set("Type Unit ⊥ ¬ × → λ let in record where = : ⌜ ⌝ _ now
 
 # The claims in the page's order: the name there, and the statement, `*` being each field of a record; several must rest on the same but for themselves.
 CLAIMS = [
-    ("a call equals `step`", ["store/src/" + s for s in (
-        "set_calls set_call", "set_reads set_read", "relation_calls relation_call", "relation_reads relation_read", "image_calls image_call",
-        "filter_calls filter_call", "path_reads path_read")]),
-    ("`new` equals `new-step`", ["new_store/src/lib new"]),
-    ("`policy` equals `policy-step`", ["policies/src/lib policy"]),
+    ("a call that may add nodes replies by `step`", ["store/src/" + s for s in (
+        "set_calls set_call", "relation_calls relation_call", "image_calls image_call", "filter_calls filter_call")]),
+    ("a call that only reads equals `step`", ["store/src/" + s for s in ("set_reads set_read", "relation_reads relation_read", "path_reads path_read")]),
+    ("`new` replies by `new-step`", ["new_store/src/lib new"]),
+    ("`policy` replies by `policy-step`", ["policies/src/lib policy"]),
     ("`*`", ["specs/EveryHistory HistoryRight.*"]),
     ("`AcceptedAlone`", ["specs/AcceptedAlone AcceptedAlone"]),
     ("`TextRight`", ["proofs/OneText text-right"]),
     ("`PlainText`", ["proofs/PlainText plain-text"]),
     ("`NewRight`", ["proofs/NewStore new-right"]),
     ("`AsHasPath`", ["proofs/FirstPath as-has-path"]),
+    ("`AddedRight`", ["proofs/Added added-right"]),
+    ("`NewAdded`", ["proofs/Added new-added"]),
+    ("`MkAdded`", ["proofs/MkAdded set-mk-added", "proofs/MkAdded relation-mk-added"]),
+    ("`AddedTogether`", ["proofs/Added added-together"]),
     ("`Worked`", ["specs/Worked Worked"]),
 ]
 
@@ -52,7 +56,10 @@ ABOUT = {
     "specs/Reading reading": "the text of a policy: how it is read, and what it runs",
     "specs/OnMemories new-step": "`new`",
     "specs/Calls step": "the other 42 calls",
+    "specs/Added held-in": "counts of nodes",
+    "specs/Added added-by-new": "what `new` added",
     "specs/AllCalls AnyCall": "all 44 calls as one type",
+    "specs/AllCalls nodes-added": "what any call added",
     "specs/Histories History": "calls that were made, and histories",
     "specs/PlainStore Plain": "the plain store beside the memories",
     "specs/Lists in-turn": "calls in turn",

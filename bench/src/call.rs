@@ -2,7 +2,7 @@
 
 use crate::sides::{timed, Lent};
 use oracle::policy::{build, judge};
-use packet_store::{Refusal, FIELDS, RELATION_COUNT, RELATION_HEAD, SET_COUNT, SET_HEAD};
+use packet_store::{Made, Refusal, FIELDS, RELATION_COUNT, RELATION_HEAD, SET_COUNT, SET_HEAD};
 use reference::sp::{SPnode, SP};
 use reference::spp::{SPPnode, SPPstore, SPP};
 use std::time::Duration;
@@ -15,7 +15,7 @@ pub struct Call {
 }
 
 /// How the library and the Rust make a relation from two.
-type OurBinary = fn(&mut [u32], &[u32], &mut [u32], u32, u32) -> Result<u32, Refusal>;
+type OurBinary = fn(&mut [u32], &[u32], &mut [u32], u32, u32) -> Result<Made, Refusal>;
 type RustBinary = fn(&mut SPPstore, SPP, SPP) -> SPP;
 
 /// What a call gives, and the relation nodes and set nodes that are held after it.
@@ -34,7 +34,7 @@ impl Call {
     pub fn binary(name: &str, ours: OurBinary, rust: RustBinary, a: u32, b: u32) -> Call {
         Call::new(
             name,
-            move |m| ours(&mut m.relations, &m.sets, &mut m.work, a, b).expect("fits"),
+            move |m| ours(&mut m.relations, &m.sets, &mut m.work, a, b).expect("fits").handle,
             move |s| rust(s, SPP(a), SPP(b)).0,
         )
     }

@@ -36,7 +36,7 @@ fn calls(a: u32, b: u32, text: String) -> Vec<Call> {
             "star",
             move |m| {
                 let star = library::relation_star(&mut m.relations, &m.sets, &mut m.work, a);
-                star.expect("fits")
+                star.expect("fits").handle
             },
             move |s| s.star(SPP(a)).0,
         ),

@@ -70,6 +70,7 @@ fn kinds(seed: u64, what: Draw) -> Vec<Kind> {
         let mut lent = Lent::new(MOST_PLACES, BUILDING);
         let a = lent.run(what.fields, &drawn.text).expect("fits");
         let full = library::set_one(&lent.relations, &mut lent.sets, &mut lent.work).expect("fits");
+        let full = full.handle;
         all.push(Case { lent: lent.clone(), p: full, a, q: full });
         let mut with_sets = lent.clone();
         let [p, q] = [(); 2].map(|()| set(&mut with_sets, what.fields, &mut random));
@@ -78,7 +79,7 @@ fn kinds(seed: u64, what: Draw) -> Vec<Kind> {
             library::relation_xor(&mut lent.relations, &lent.sets, &mut lent.work, a, b).ok()
         });
         if let Some(xor) = xor {
-            differ.push(Case { lent, p: full, a: xor, q: full });
+            differ.push(Case { lent, p: full, a: xor.handle, q: full });
         }
     }
     vec![
@@ -94,17 +95,17 @@ fn set(lent: &mut Lent, fields: u32, random: &mut Random) -> u32 {
     let mut tests = || {
         let test = |sets: &mut [u32], work: &mut [u32], random: &mut Random| {
             let (var, value) = (random.below(fields), random.below(2));
-            library::set_test(relations, sets, work, var, value).expect("fits")
+            library::set_test(relations, sets, work, var, value).expect("fits").handle
         };
         (0..2).fold(test(sets, work, random), |set, _| {
             let next = test(sets, work, random);
-            library::set_intersect(relations, sets, work, set, next).expect("fits")
+            library::set_intersect(relations, sets, work, set, next).expect("fits").handle
         })
     };
     let [a, b, c] = [tests(), tests(), tests()];
-    let either = library::set_union(relations, sets, work, a, b).expect("fits");
+    let either = library::set_union(relations, sets, work, a, b).expect("fits").handle;
     let rest = library::set_complement(relations, sets, work, c).expect("held");
-    library::set_union(relations, sets, work, either, rest).expect("fits")
+    library::set_union(relations, sets, work, either, rest).expect("fits").handle
 }
 
 /// The text with the value of one test or assignment turned.

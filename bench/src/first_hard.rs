@@ -76,15 +76,16 @@ fn store([pairs, packets]: [usize; 2]) -> (Lent, [u32; 2]) {
     let mut lent = Lent::new(MOST_PLACES, BUILDING);
     lent.run(FIELDS, "1").expect("a new store");
     let Lent { relations, sets, work } = &mut lent;
-    let p =
-        root(packets, 0, |[x0, x1]| library::set_mk(relations, sets, work, x0, x1).expect("fits"));
+    let p = root(packets, 0, |[x0, x1]| {
+        library::set_mk(relations, sets, work, x0, x1).expect("fits").handle
+    });
     let halves = [(0, 3), (1, 0)].map(|(value, last)| {
         let divided = root(pairs, last, |[x00, x01, x10, x11]| {
-            library::relation_mk(relations, sets, work, x00, x01, x10, x11).expect("fits")
+            library::relation_mk(relations, sets, work, x00, x01, x10, x11).expect("fits").handle
         });
-        let test = library::relation_test(relations, sets, work, 0, value).expect("fits");
-        library::relation_sequence(relations, sets, work, test, divided).expect("fits")
+        let test = library::relation_test(relations, sets, work, 0, value).expect("fits").handle;
+        library::relation_sequence(relations, sets, work, test, divided).expect("fits").handle
     });
     let a = library::relation_union(relations, sets, work, halves[0], halves[1]).expect("fits");
-    (lent, [p, a])
+    (lent, [p, a.handle])
 }

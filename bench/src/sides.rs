@@ -34,7 +34,9 @@ impl Lent {
 
     /// A policy's handle in the store held.
     pub fn policy(&mut self, text: &str) -> Result<u32, PolicyRefusal> {
-        packet_store::policy(&mut self.relations, &self.sets, &mut self.work, text.as_bytes())
+        let made =
+            packet_store::policy(&mut self.relations, &self.sets, &mut self.work, text.as_bytes())?;
+        Ok(made.handle)
     }
 
     /// How many relation nodes are held.

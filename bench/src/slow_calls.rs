@@ -22,10 +22,12 @@ pub fn calls() -> (Lent, Vec<Call>) {
     let Lent { relations, sets, work } = &mut lent;
     let [a, b] = [(61, 0), (59, 3)].map(|(divisor, last)| {
         root(divisor, last, |[x00, x01, x10, x11]| {
-            library::relation_mk(relations, sets, work, x00, x01, x10, x11).expect("fits")
+            library::relation_mk(relations, sets, work, x00, x01, x10, x11).expect("fits").handle
         })
     });
-    let p = root(17, 0, |[x0, x1]| library::set_mk(relations, sets, work, x0, x1).expect("fits"));
+    let p = root(17, 0, |[x0, x1]| {
+        library::set_mk(relations, sets, work, x0, x1).expect("fits").handle
+    });
     let calls = vec![
         Call::binary("sequence", library::relation_sequence, SPPstore::sequence, a, b),
         Call::binary("intersect", library::relation_intersect, SPPstore::intersect, a, b),
@@ -33,7 +35,7 @@ pub fn calls() -> (Lent, Vec<Call>) {
             "push",
             move |m| {
                 let image = library::relation_push(&m.relations, &mut m.sets, &mut m.work, p, b);
-                image.expect("fits")
+                image.expect("fits").handle
             },
             move |s| s.push(SP(p), SPP(b)).0,
         ),

@@ -46,7 +46,7 @@ pub fn table(seed: u64, what: Draw) -> String {
 fn first_pair(lent: &mut Lent, fields: u32, text: &str) -> usize {
     let a = lent.run(fields, text).expect("fits");
     let Lent { relations, sets, work } = lent;
-    let all = library::set_one(relations, sets, work).expect("held");
+    let all = library::set_one(relations, sets, work).expect("held").handle;
     used(&mut || {
         assert!(library::relation_first_path(relations, sets, work, all, a, all).is_ok());
     })

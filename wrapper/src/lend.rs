@@ -20,35 +20,41 @@ impl Lend for &mut [u32] {
     }
 }
 
-/// Declares the library's function of this name and calls it on the three memories and its own arguments; the answer is packed,
-/// a number or the type named last. An argument has its name, its type in C and its value.
-macro_rules! ask {
-    ($name:ident($($arguments:tt)*)) => {
-        $crate::lend::ask!($name($($arguments)*) -> u64)
-    };
+/// Declares the library's function of this name on the three memories and its own arguments.
+macro_rules! exported {
     ($name:ident(
-        $relations:ident: $relations_type:ty,
-        $sets:ident: $sets_type:ty,
-        $work:ident
-        $(, $x:ident: $type:ty = $value:expr)*
-    ) -> $answer:ty) => {{
-        extern "C" {
-            #[link_name = concat!("packet_store_", stringify!($name))]
-            fn exported(
-                relations: <$relations_type as $crate::lend::Lend>::Pointer,
-                relations_len: usize,
-                sets: <$sets_type as $crate::lend::Lend>::Pointer,
-                sets_len: usize,
-                work: *mut u32,
-                work_len: usize
-                $(, $x: $type)*
-            ) -> $answer;
-        }
+        relations: &$($relations:ident)? [u32],
+        sets: &$($sets:ident)? [u32]
+        $(, $x:ident: $type:ty)*
+    ) -> $returned:ty) => {
+        #[doc = concat!("The C function of [`", stringify!($name), "`](crate::", stringify!($name), ").")]
+        #[link_name = concat!("packet_store_", stringify!($name))]
+        pub fn $name(
+            relations: $crate::lend::pointer!($($relations)?),
+            relations_len: usize,
+            sets: $crate::lend::pointer!($($sets)?),
+            sets_len: usize,
+            work: *mut u32,
+            work_len: usize
+            $(, $x: $type)*
+        ) -> $returned;
+    };
+}
+
+/// The pointer to a memory, with `mut` where it may be written.
+macro_rules! pointer {
+    () => { *const u32 };
+    (mut) => { *mut u32 };
+}
+
+/// Calls the library's function of this name on the three memories and its own arguments.
+macro_rules! ask {
+    ($name:ident($relations:ident, $sets:ident, $work:ident $(, $value:expr)*)) => {{
         let (relations_len, sets_len, work_len) = ($relations.len(), $sets.len(), $work.len());
         // SAFETY: each pointer comes from a slice of the length beside it, and slices that are
         // written are borrowed mutably, so none overlaps another. The function writes only to them.
         unsafe {
-            exported(
+            $crate::raw::$name(
                 $crate::lend::Lend::pointer($relations),
                 relations_len,
                 $crate::lend::Lend::pointer($sets),
@@ -61,4 +67,4 @@ macro_rules! ask {
     }};
 }
 
-pub(crate) use ask;
+pub(crate) use {ask, exported, pointer};

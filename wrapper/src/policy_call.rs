@@ -1,8 +1,17 @@
 //! The call on a policy text.
 
 use crate::lend::ask;
-use crate::refusal::unpack_policy;
-use crate::PolicyRefusal;
+use crate::{Made, PolicyRefusal};
+
+/// The library's function.
+pub(crate) mod declared {
+    use crate::raw::Reply;
+    extern "C" {
+        crate::lend::exported! {
+            policy(relations: &mut [u32], sets: &[u32], text: *const u8, text_len: usize) -> Reply
+        }
+    }
+}
 
 /// The relation of level k that a policy text relates.
 ///
@@ -14,23 +23,23 @@ use crate::PolicyRefusal;
 /// first `!` over `:=` or `*`; `UsedUp`.
 ///
 /// ```
-/// use packet_store::{new, policy, relations_len, sets_len, Fault, PolicyRefusal, WORK_LEN};
+/// use packet_store::{new, policy, relations_len, sets_len, Fault, Made, PolicyRefusal, WORK_LEN};
 /// let (relations, sets) = (&mut [0; relations_len(64)], &mut [0; sets_len(4)]);
 /// let mut work = vec![0; WORK_LEN];
 /// new(relations, sets, &mut work, 1)?;
 /// let mut judge = |text| policy(relations, sets, &mut work, text);
-/// assert_eq!(judge(b"x0=0+x0=1"), judge(b"1"));
+/// // The sum is the identity, which `new` made; its two tests are two new nodes.
+/// let Made { handle, added } = judge(b"x0=0+x0=1")?;
+/// assert_eq!((added.relations, added.sets), (2, 0));
+/// assert_eq!(judge(b"1")?.handle, handle);
 /// assert_eq!(judge(b"x0=5"), Err(PolicyRefusal::At(Fault::NotPolicy, 3)));
-/// # Ok::<(), packet_store::Refusal>(())
+/// # Ok::<(), PolicyRefusal>(())
 /// ```
 pub fn policy(
     relations: &mut [u32],
     sets: &[u32],
     work: &mut [u32],
     text: &[u8],
-) -> Result<u32, PolicyRefusal> {
-    let (bytes, len) = (text.as_ptr(), text.len());
-    unpack_policy(ask!(
-        policy(relations: &mut [u32], sets: &[u32], work, text: *const u8 = bytes, text_len: usize = len)
-    ))
+) -> Result<Made, PolicyRefusal> {
+    ask!(policy(relations, sets, work, text.as_ptr(), text.len())).policy()
 }

@@ -1,65 +1,10 @@
 //! What only C sees: null pointers of no length, children that stay as they are, and the struct of a pair.
 
+use packet_store::raw::{self, Pair, Reply};
 use packet_store::{new, relation_mk, relations_len, set_zero, sets_len};
 use std::ptr::{null, null_mut};
 
-/// The header's struct.
-#[repr(C)]
-#[derive(Debug, PartialEq)]
-struct Pair {
-    answer: u64,
-    input: u32,
-    output: u32,
-}
-
-extern "C" {
-    fn packet_store_set_get(
-        relations: *const u32,
-        relations_len: usize,
-        sets: *const u32,
-        sets_len: usize,
-        work: *mut u32,
-        work_len: usize,
-        a: u32,
-        children: *mut u32,
-    ) -> u64;
-
-    fn packet_store_relation_get(
-        relations: *const u32,
-        relations_len: usize,
-        sets: *const u32,
-        sets_len: usize,
-        work: *mut u32,
-        work_len: usize,
-        a: u32,
-        children: *mut u32,
-    ) -> u64;
-
-    fn packet_store_relation_first_path(
-        relations: *const u32,
-        relations_len: usize,
-        sets: *const u32,
-        sets_len: usize,
-        work: *mut u32,
-        work_len: usize,
-        p: u32,
-        a: u32,
-        q: u32,
-    ) -> Pair;
-
-    fn packet_store_policy(
-        relations: *mut u32,
-        relations_len: usize,
-        sets: *const u32,
-        sets_len: usize,
-        work: *mut u32,
-        work_len: usize,
-        text: *const u8,
-        text_len: usize,
-    ) -> u64;
-}
-
-/// One of the first two.
+/// The function `get` of a kind.
 type Get = unsafe extern "C" fn(
     *const u32,
     usize,
@@ -92,20 +37,20 @@ fn ask<const N: usize>(
 fn get_writes_the_children_of_an_accepted_call_only() {
     let (mut relations, mut sets) = ([0; relations_len(3)], [0; sets_len(1)]);
     new(&mut relations, &mut sets, &mut [], 1).unwrap();
-    let set = |sets: &[u32], a| ask(packet_store_set_get, &relations, sets, a, [70, 80]);
+    let set = |sets: &[u32], a| ask(raw::set_get, &relations, sets, a, [70, 80]);
     assert_eq!(set(&sets, 3), (1, [1, 1]));
     assert_eq!(set(&sets, 2), (0, [0, 0]));
     assert_eq!(set(&sets, 4), (2 << 32, [70, 80]));
     assert_eq!(set(&sets, 1), (4 << 32, [70, 80]));
     assert_eq!(set(&sets[..2], 3), (1 << 32, [70, 80]));
     let kept = [70, 80, 90, 100];
-    let relation = |sets: &[u32], a| ask(packet_store_relation_get, &relations, sets, a, kept);
+    let relation = |sets: &[u32], a| ask(raw::relation_get, &relations, sets, a, kept);
     assert_eq!(relation(&sets, 3), (1, [1, 0, 0, 1]));
     assert_eq!(relation(&sets, 2), (0, [0, 0, 0, 0]));
     assert_eq!(relation(&sets, 5), (2 << 32, kept));
     assert_eq!(relation(&sets, 1), (4 << 32, kept));
     assert_eq!(relation(&sets[..2], 3), (1 << 32, kept));
-    assert_eq!(set_zero(&relations, &mut sets, &mut []), Ok(2));
+    assert_eq!(set_zero(&relations, &mut sets, &mut []).unwrap().handle, 2);
 }
 
 #[test]
@@ -113,13 +58,11 @@ fn a_pair_stands_beside_its_answer() {
     let (mut relations, mut sets) = ([0; relations_len(4)], [0; sets_len(1)]);
     new(&mut relations, &mut sets, &mut [], 1).unwrap();
     // Relation 5 sends 1 to 0.
-    assert_eq!(relation_mk(&mut relations, &sets, &mut [], 0, 0, 1, 0), Ok(5));
+    assert_eq!(relation_mk(&mut relations, &sets, &mut [], 0, 0, 1, 0).unwrap().handle, 5);
     let first = |len, p, a, q| {
         let (r, s) = (relations.as_ptr(), sets.as_ptr());
         // SAFETY: the pointers are those of slices that have these lengths, and work has no numbers.
-        unsafe {
-            packet_store_relation_first_path(r, relations.len(), s, len, null_mut(), 0, p, a, q)
-        }
+        unsafe { raw::relation_first_path(r, relations.len(), s, len, null_mut(), 0, p, a, q) }
     };
     let given = |answer, input, output| Pair { answer, input, output };
     assert_eq!(first(sets.len(), 3, 5, 3), given(1, 1, 0));
@@ -138,13 +81,14 @@ fn a_policys_answer_has_two_halves() {
         let (r, r_len, s, s_len) =
             (relations.as_mut_ptr(), relations.len(), sets.as_ptr(), sets.len());
         // SAFETY: the pointers are those of slices, work has no numbers, and a text of no bytes is not read.
-        unsafe { packet_store_policy(r, r_len, s, s_len, null_mut(), 0, text, len) }
+        unsafe { raw::policy(r, r_len, s, s_len, null_mut(), 0, text, len) }
     };
-    assert_eq!(judge(null(), 0), 7 << 32);
+    let given = |answer| Reply { answer, relations: 0, sets: 0 };
+    assert_eq!(judge(null(), 0), given(7 << 32));
     let text = b"1+x0=5";
-    assert_eq!(judge(text.as_ptr(), text.len()), 7 << 32 | 5);
-    assert_eq!(judge(text.as_ptr(), 1), 3);
-    assert_eq!(judge(text[2..].as_ptr(), 3), 7 << 32 | 3);
-    assert_eq!(judge(b"x0=1".as_ptr(), 4), 6 << 32);
-    assert_eq!(judge([b'1'; 4097].as_ptr(), 4097), 10 << 32);
+    assert_eq!(judge(text.as_ptr(), text.len()), given(7 << 32 | 5));
+    assert_eq!(judge(text.as_ptr(), 1), given(3));
+    assert_eq!(judge(text[2..].as_ptr(), 3), given(7 << 32 | 3));
+    assert_eq!(judge(b"x0=1".as_ptr(), 4), given(6 << 32));
+    assert_eq!(judge([b'1'; 4097].as_ptr(), 4097), given(10 << 32));
 }

@@ -103,7 +103,8 @@ fn new_makes_the_nodes_of_document_01() {
 fn new_refuses_in_order() {
     assert_eq!(Bench::raw(4096, 4096).open(33), Err(OutOfRange));
     let empty = |relations: usize, sets: usize, k: u32| {
-        new(&mut vec![0; relations], &mut vec![0; sets], &mut [], k)
+        let made = new(&mut vec![0; relations], &mut vec![0; sets], &mut [], k);
+        made.map(|made| made.handle)
     };
     assert_eq!(empty(0, 0, 33), Err(OutOfRange));
     assert_eq!(empty(RELATION_HEAD - 1, SET_HEAD, 0), Err(NotStore));

@@ -4,6 +4,7 @@ pub mod Walking
 pub mod Writing
 pub mod Encoding
 pub mod Outcomes
+pub mod Counting
 pub mod Running
 pub mod CallSteps
 pub mod Reading

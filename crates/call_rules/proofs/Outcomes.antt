@@ -48,17 +48,17 @@ put-head rel (x ∷ []) n h = absurd (omega arith)
 put-head rel (x ∷ y ∷ m) n h = refl
 
 -- the count is in the head
-counted : (K : Kind) → count-at K < head K
-counted set = omega arith
-counted rel = omega arith
+count-in-head : (K : Kind) → count-at K < head K
+count-in-head set = omega arith
+count-in-head rel = omega arith
 
 pub put-count : (K : Kind) (m b : List ℕ) (n : ℕ) → head K ≤ length m → put (take (head K) m ++ b) (count-at K) n ≡ recount K m n ++ b
-put-count K m b n h = set-append-left (take (head K) m) b (count-at K) n (omega (arith, counted K, length-take-le (head K) m h))
+put-count K m b n h = set-append-left (take (head K) m) b (count-at K) n (omega (arith, count-in-head K, length-take-le (head K) m h))
     ∙ ap (λ a. a ++ b) (put-head K m n h)
 
 same-count : (K : Kind) (m : List ℕ) → head K ≤ length m → recount K m (count K m) ≡ take (head K) m
 same-count K m h = sym (put-head K m (count K m) h)
-    ∙ ap (put (take (head K) m) (count-at K)) (sym (getD-take (head K) m (count-at K) 0 (counted K))) ∙ set-getD (take (head K) m) (count-at K) 0
+    ∙ ap (put (take (head K) m) (count-at K)) (sym (getD-take (head K) m (count-at K) 0 (count-in-head K))) ∙ set-getD (take (head K) m) (count-at K) 0
 
 -- ONE MEMORY: m before the call, m₁ with the nodes b that a program left, m′ after `commit`
 module _ (K : Kind) (p : Prog) (B : Store) (m m₁ m′ b w w′ : List ℕ) (r : RunState) (R : Room K m)

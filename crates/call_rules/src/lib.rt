@@ -2,6 +2,7 @@
 ghost use mathlib.Core.Path.{_≡_};
 ghost use Rattle.call_rules.specs.Answers.{refusal-number};
 
+pub mod added;
 pub mod finish;
 pub mod operands;
 
@@ -25,6 +26,12 @@ pub enum Answer {
     Declined(Refusal),
     Pair(u32, u32),
     Nothing,
+}
+
+// What a call that may add nodes returns: its answer, and the nodes that it added.
+pub struct Reply {
+    pub answer: Answer,
+    pub added: added::NodeCounts,
 }
 
 // Whether a call is declined: the level of its operands, or why.

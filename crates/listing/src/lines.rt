@@ -35,7 +35,7 @@ fn policy_line(
     ensures { λ r. ⌜ PolicyLine (now (text .entry)) i (memories (now (relations .entry)) (now (sets .entry)))
         (memories (now (relations .exit)) (now (sets .entry))) at (now (out .entry)) (now (out .exit)) r ⌝ }
 {
-    let a = policies::policy(relations, sets, work, text);
+    let a = policies::policy(relations, sets, work, text).answer;
     crate::writing::answer_line(out, at, i, a)
 }
 

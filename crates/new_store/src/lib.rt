@@ -5,6 +5,7 @@ ghost use lib.ListN.{length};
 ghost use Rattle.model.specs.Store.{set, rel};
 ghost use Rattle.model.specs.NewNodes.{levels, level-handle, level-node, new-sets, new-relations};
 ghost use Rattle.store_check.specs.Memory.{memories, head-of, write};
+ghost use Rattle.call_rules.specs.Added.{held-in, new-counted};
 ghost use Rattle.call_rules.specs.Promise.{Meets};
 ghost use Rattle.call_rules.specs.OnMemories.{new-step};
 ghost use Rattle.new_store.specs.Creating.{NewChecked, freed, NewFits, NodesWritten};
@@ -114,18 +115,28 @@ fn write_relations(relations: &mut [u32], k: u32) -> u32
     h
 }
 
-// `SPPstore::new(k)`: the handle of the full relation.
-pub fn new(relations: &mut [u32], sets: &mut [u32], work: &mut [u32], k: u32) -> call_rules::Answer
-    ensures { λ r. ⌜ Meets (new-step k (memories (now (relations .entry)) (now (sets .entry))))
-        (memories (now (relations .exit)) (now (sets .exit))) (now (work .entry)) (now (work .exit)) r ⌝ }
+// `SPPstore::new(k)`: the handle of the full relation, and the nodes that the new store holds.
+pub fn new(relations: &mut [u32], sets: &mut [u32], work: &mut [u32], k: u32) -> call_rules::Reply
+    ensures { λ r. ⌜ Meets (new-counted held-in (new-step k (memories (now (relations .entry)) (now (sets .entry)))))
+        (memories (now (relations .exit)) (now (sets .exit))) (now (work .entry)) (now (work .exit)) (r .answer, r .added) ⌝ }
 {
     memory::clear(work);
     let check = check(relations.len(), sets.len(), k);
     match check {
-        call_rules::Check::No(r) => call_rules::Answer::Declined(r),
+        call_rules::Check::No(r) => call_rules::Reply {
+            answer: call_rules::Answer::Declined(r),
+            added: call_rules::added::NodeCounts {
+                relations: 0,
+                sets: 0,
+            },
+        },
         call_rules::Check::Level(l) => {
             write_sets(sets, l);
-            call_rules::Answer::Handle(write_relations(relations, l))
+            let top = write_relations(relations, l);
+            call_rules::Reply {
+                answer: call_rules::Answer::Handle(top),
+                added: call_rules::added::held(relations, sets),
+            }
         }
     }
 }

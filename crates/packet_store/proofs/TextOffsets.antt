@@ -70,5 +70,5 @@ module _ (t : List ℕ) (M : Memories) where
       (λ _. finishes-offset (set-places M) (rel-places M) (decode M) M (λ S. encode (fields M) S M) (gives (refused NotStore)) (omega arith))
 
   -- THE CLAIM, of what a policy call answers
-  pub short-offset : (M′ : Memories) (a : PolicyAnswer) → outcome a M′ ≡ policy-step t M → offset a ≤ most-bytes
-  short-offset M′ a e = subst (λ u. offset (u .answer) ≤ most-bytes) (sym e) step-short
+  pub short-offset : (a : PolicyAnswer) → a ≡ policy-step t M .answer → offset a ≤ most-bytes
+  short-offset a e = subst (λ b. offset b ≤ most-bytes) (sym e) step-short

@@ -2,15 +2,20 @@
 ghost use Rattle.store_check.specs.Memory.{memories};
 ghost use Rattle.store.specs.Calls.{filter-call, step};
 ghost use Rattle.store.specs.declared.filter_calls.FilterCall.the-variants.{Diagonal, Ifwd, Ibwd};
-ghost use Rattle.packing.specs.Returns.{Answers};
+ghost use Rattle.packing.specs.Returns.{AnswersAdded};
 use store::filter_calls::FilterCall;
 
-// Any of these calls, its answer packed.
-fn packed(relations: &mut [u32], sets: &[u32], work: &mut [u32], call: FilterCall) -> u64
-    ensures { λ r. ⌜ Answers (step (filter-call call) (memories (now (relations .entry)) (now (sets .entry))))
+// Any of these calls, its reply packed.
+fn packed(
+    relations: &mut [u32],
+    sets: &[u32],
+    work: &mut [u32],
+    call: FilterCall,
+) -> packing::AddedReply
+    ensures { λ r. ⌜ AnswersAdded (step (filter-call call)) (memories (now (relations .entry)) (now (sets .entry)))
         (memories (now (relations .exit)) (now (sets .entry))) (now (work .entry)) (now (work .exit)) r ⌝ }
 {
-    packing::pack(store::filter_calls::filter_call(relations, sets, work, call))
+    packing::pack_reply(store::filter_calls::filter_call(relations, sets, work, call))
 }
 
 // Each packet of p, to itself.
@@ -20,8 +25,8 @@ pub extern "C" fn packet_store_relation_diagonal(
     sets: &[u32],
     work: &mut [u32],
     p: u32,
-) -> u64
-    ensures { λ r. ⌜ Answers (step (filter-call (Diagonal p)) (memories (now (relations .entry)) (now (sets .entry))))
+) -> packing::AddedReply
+    ensures { λ r. ⌜ AnswersAdded (step (filter-call (Diagonal p))) (memories (now (relations .entry)) (now (sets .entry)))
         (memories (now (relations .exit)) (now (sets .entry))) (now (work .entry)) (now (work .exit)) r ⌝ }
 {
     packed(relations, sets, work, FilterCall::Diagonal(p))
@@ -34,8 +39,8 @@ pub extern "C" fn packet_store_relation_ifwd(
     sets: &[u32],
     work: &mut [u32],
     p: u32,
-) -> u64
-    ensures { λ r. ⌜ Answers (step (filter-call (Ifwd p)) (memories (now (relations .entry)) (now (sets .entry))))
+) -> packing::AddedReply
+    ensures { λ r. ⌜ AnswersAdded (step (filter-call (Ifwd p))) (memories (now (relations .entry)) (now (sets .entry)))
         (memories (now (relations .exit)) (now (sets .entry))) (now (work .entry)) (now (work .exit)) r ⌝ }
 {
     packed(relations, sets, work, FilterCall::Ifwd(p))
@@ -48,8 +53,8 @@ pub extern "C" fn packet_store_relation_ibwd(
     sets: &[u32],
     work: &mut [u32],
     p: u32,
-) -> u64
-    ensures { λ r. ⌜ Answers (step (filter-call (Ibwd p)) (memories (now (relations .entry)) (now (sets .entry))))
+) -> packing::AddedReply
+    ensures { λ r. ⌜ AnswersAdded (step (filter-call (Ibwd p))) (memories (now (relations .entry)) (now (sets .entry)))
         (memories (now (relations .exit)) (now (sets .entry))) (now (work .entry)) (now (work .exit)) r ⌝ }
 {
     packed(relations, sets, work, FilterCall::Ibwd(p))

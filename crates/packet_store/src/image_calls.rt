@@ -2,15 +2,20 @@
 ghost use Rattle.store_check.specs.Memory.{memories};
 ghost use Rattle.store.specs.Calls.{image-call, step};
 ghost use Rattle.store.specs.declared.image_calls.ImageCall.the-variants.{Fwd, Bwd, Push, Pull};
-ghost use Rattle.packing.specs.Returns.{Answers};
+ghost use Rattle.packing.specs.Returns.{AnswersAdded};
 use store::image_calls::ImageCall;
 
-// Any of these calls, its answer packed.
-fn packed(relations: &[u32], sets: &mut [u32], work: &mut [u32], call: ImageCall) -> u64
-    ensures { λ r. ⌜ Answers (step (image-call call) (memories (now (relations .entry)) (now (sets .entry))))
+// Any of these calls, its reply packed.
+fn packed(
+    relations: &[u32],
+    sets: &mut [u32],
+    work: &mut [u32],
+    call: ImageCall,
+) -> packing::AddedReply
+    ensures { λ r. ⌜ AnswersAdded (step (image-call call)) (memories (now (relations .entry)) (now (sets .entry)))
         (memories (now (relations .entry)) (now (sets .exit))) (now (work .entry)) (now (work .exit)) r ⌝ }
 {
-    packing::pack(store::image_calls::image_call(relations, sets, work, call))
+    packing::pack_reply(store::image_calls::image_call(relations, sets, work, call))
 }
 
 // The outputs of a.
@@ -20,8 +25,8 @@ pub extern "C" fn packet_store_relation_fwd(
     sets: &mut [u32],
     work: &mut [u32],
     a: u32,
-) -> u64
-    ensures { λ r. ⌜ Answers (step (image-call (Fwd a)) (memories (now (relations .entry)) (now (sets .entry))))
+) -> packing::AddedReply
+    ensures { λ r. ⌜ AnswersAdded (step (image-call (Fwd a))) (memories (now (relations .entry)) (now (sets .entry)))
         (memories (now (relations .entry)) (now (sets .exit))) (now (work .entry)) (now (work .exit)) r ⌝ }
 {
     packed(relations, sets, work, ImageCall::Fwd(a))
@@ -34,8 +39,8 @@ pub extern "C" fn packet_store_relation_bwd(
     sets: &mut [u32],
     work: &mut [u32],
     a: u32,
-) -> u64
-    ensures { λ r. ⌜ Answers (step (image-call (Bwd a)) (memories (now (relations .entry)) (now (sets .entry))))
+) -> packing::AddedReply
+    ensures { λ r. ⌜ AnswersAdded (step (image-call (Bwd a))) (memories (now (relations .entry)) (now (sets .entry)))
         (memories (now (relations .entry)) (now (sets .exit))) (now (work .entry)) (now (work .exit)) r ⌝ }
 {
     packed(relations, sets, work, ImageCall::Bwd(a))
@@ -49,8 +54,8 @@ pub extern "C" fn packet_store_relation_push(
     work: &mut [u32],
     p: u32,
     a: u32,
-) -> u64
-    ensures { λ r. ⌜ Answers (step (image-call (Push p a)) (memories (now (relations .entry)) (now (sets .entry))))
+) -> packing::AddedReply
+    ensures { λ r. ⌜ AnswersAdded (step (image-call (Push p a))) (memories (now (relations .entry)) (now (sets .entry)))
         (memories (now (relations .entry)) (now (sets .exit))) (now (work .entry)) (now (work .exit)) r ⌝ }
 {
     packed(relations, sets, work, ImageCall::Push(p, a))
@@ -64,8 +69,8 @@ pub extern "C" fn packet_store_relation_pull(
     work: &mut [u32],
     a: u32,
     p: u32,
-) -> u64
-    ensures { λ r. ⌜ Answers (step (image-call (Pull a p)) (memories (now (relations .entry)) (now (sets .entry))))
+) -> packing::AddedReply
+    ensures { λ r. ⌜ AnswersAdded (step (image-call (Pull a p))) (memories (now (relations .entry)) (now (sets .entry)))
         (memories (now (relations .entry)) (now (sets .exit))) (now (work .entry)) (now (work .exit)) r ⌝ }
 {
     packed(relations, sets, work, ImageCall::Pull(a, p))

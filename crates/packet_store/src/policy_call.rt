@@ -4,7 +4,7 @@ ghost use Prim.Native.Nat.{_≤_};
 ghost use Rattle.policies.specs.Outcome.{most-bytes};
 ghost use Rattle.store_check.specs.Memory.{memories};
 ghost use Rattle.policies.specs.declared.PolicyAnswer.the-variants.{Declined};
-ghost use Rattle.packet_store.specs.PackedPolicy.{offset, packed-policy, AnswersPolicy};
+ghost use Rattle.packet_store.specs.PackedPolicy.{offset, packed-policy, packed-policy-reply, AnswersPolicy};
 use policies::PolicyAnswer;
 use policies::PolicyRefusal;
 
@@ -30,6 +30,16 @@ fn pack(a: PolicyAnswer) -> u64
     }
 }
 
+// The answer packed, and the nodes added.
+fn pack_reply(r: policies::PolicyReply) -> packing::AddedReply
+    requires { ⌜ offset (r .answer) ≤ most-bytes ⌝ }
+    ensures { λ c. ⌜ c ≡ packed-policy-reply (r .answer, r .added) ⌝ }
+{
+    let answer = r.answer;
+    let added = r.added;
+    packing::with_added(pack(answer), added)
+}
+
 // The relation that a policy text means.
 #[no_mangle]
 pub extern "C" fn packet_store_policy(
@@ -37,9 +47,9 @@ pub extern "C" fn packet_store_policy(
     sets: &[u32],
     work: &mut [u32],
     text: &[u8],
-) -> u64
+) -> packing::AddedReply
     ensures { λ r. ⌜ AnswersPolicy (now (text .entry)) (memories (now (relations .entry)) (now (sets .entry)))
         (memories (now (relations .exit)) (now (sets .entry))) (now (work .entry)) (now (work .exit)) r ⌝ }
 {
-    pack(policies::policy(relations, sets, work, text))
+    pack_reply(policies::policy(relations, sets, work, text))
 }

@@ -3,15 +3,20 @@ ghost use Rattle.store_check.specs.Memory.{memories};
 ghost use Rattle.store.specs.Calls.{relation-call, step};
 ghost use Rattle.store.specs.declared.relation_calls.RelationCall.the-variants.{Mk, Zero, One, Top, Union, Intersect, Xor, Difference, Complement};
 ghost use Rattle.store.specs.declared.relation_calls.RelationCall.the-variants.{Sequence, Star, Flip, Test, Assign, NaiveForward, Backward};
-ghost use Rattle.packing.specs.Returns.{Answers};
+ghost use Rattle.packing.specs.Returns.{AnswersAdded};
 use store::relation_calls::RelationCall;
 
-// Any of these calls, its answer packed.
-fn packed(relations: &mut [u32], sets: &[u32], work: &mut [u32], call: RelationCall) -> u64
-    ensures { λ r. ⌜ Answers (step (relation-call call) (memories (now (relations .entry)) (now (sets .entry))))
+// Any of these calls, its reply packed.
+fn packed(
+    relations: &mut [u32],
+    sets: &[u32],
+    work: &mut [u32],
+    call: RelationCall,
+) -> packing::AddedReply
+    ensures { λ r. ⌜ AnswersAdded (step (relation-call call)) (memories (now (relations .entry)) (now (sets .entry)))
         (memories (now (relations .exit)) (now (sets .entry))) (now (work .entry)) (now (work .exit)) r ⌝ }
 {
-    packing::pack(store::relation_calls::relation_call(relations, sets, work, call))
+    packing::pack_reply(store::relation_calls::relation_call(relations, sets, work, call))
 }
 
 // The relation with these children: the first digit is the input's bit, the second the output's.
@@ -24,8 +29,8 @@ pub extern "C" fn packet_store_relation_mk(
     x01: u32,
     x10: u32,
     x11: u32,
-) -> u64
-    ensures { λ r. ⌜ Answers (step (relation-call (Mk x00 x01 x10 x11)) (memories (now (relations .entry)) (now (sets .entry))))
+) -> packing::AddedReply
+    ensures { λ r. ⌜ AnswersAdded (step (relation-call (Mk x00 x01 x10 x11))) (memories (now (relations .entry)) (now (sets .entry)))
         (memories (now (relations .exit)) (now (sets .entry))) (now (work .entry)) (now (work .exit)) r ⌝ }
 {
     packed(relations, sets, work, RelationCall::Mk(x00, x01, x10, x11))
@@ -37,8 +42,8 @@ pub extern "C" fn packet_store_relation_zero(
     relations: &mut [u32],
     sets: &[u32],
     work: &mut [u32],
-) -> u64
-    ensures { λ r. ⌜ Answers (step (relation-call Zero) (memories (now (relations .entry)) (now (sets .entry))))
+) -> packing::AddedReply
+    ensures { λ r. ⌜ AnswersAdded (step (relation-call Zero)) (memories (now (relations .entry)) (now (sets .entry)))
         (memories (now (relations .exit)) (now (sets .entry))) (now (work .entry)) (now (work .exit)) r ⌝ }
 {
     packed(relations, sets, work, RelationCall::Zero)
@@ -50,8 +55,8 @@ pub extern "C" fn packet_store_relation_one(
     relations: &mut [u32],
     sets: &[u32],
     work: &mut [u32],
-) -> u64
-    ensures { λ r. ⌜ Answers (step (relation-call One) (memories (now (relations .entry)) (now (sets .entry))))
+) -> packing::AddedReply
+    ensures { λ r. ⌜ AnswersAdded (step (relation-call One)) (memories (now (relations .entry)) (now (sets .entry)))
         (memories (now (relations .exit)) (now (sets .entry))) (now (work .entry)) (now (work .exit)) r ⌝ }
 {
     packed(relations, sets, work, RelationCall::One)
@@ -63,8 +68,8 @@ pub extern "C" fn packet_store_relation_top(
     relations: &mut [u32],
     sets: &[u32],
     work: &mut [u32],
-) -> u64
-    ensures { λ r. ⌜ Answers (step (relation-call Top) (memories (now (relations .entry)) (now (sets .entry))))
+) -> packing::AddedReply
+    ensures { λ r. ⌜ AnswersAdded (step (relation-call Top)) (memories (now (relations .entry)) (now (sets .entry)))
         (memories (now (relations .exit)) (now (sets .entry))) (now (work .entry)) (now (work .exit)) r ⌝ }
 {
     packed(relations, sets, work, RelationCall::Top)
@@ -78,8 +83,8 @@ pub extern "C" fn packet_store_relation_union(
     work: &mut [u32],
     a: u32,
     b: u32,
-) -> u64
-    ensures { λ r. ⌜ Answers (step (relation-call (Union a b)) (memories (now (relations .entry)) (now (sets .entry))))
+) -> packing::AddedReply
+    ensures { λ r. ⌜ AnswersAdded (step (relation-call (Union a b))) (memories (now (relations .entry)) (now (sets .entry)))
         (memories (now (relations .exit)) (now (sets .entry))) (now (work .entry)) (now (work .exit)) r ⌝ }
 {
     packed(relations, sets, work, RelationCall::Union(a, b))
@@ -93,8 +98,8 @@ pub extern "C" fn packet_store_relation_intersect(
     work: &mut [u32],
     a: u32,
     b: u32,
-) -> u64
-    ensures { λ r. ⌜ Answers (step (relation-call (Intersect a b)) (memories (now (relations .entry)) (now (sets .entry))))
+) -> packing::AddedReply
+    ensures { λ r. ⌜ AnswersAdded (step (relation-call (Intersect a b))) (memories (now (relations .entry)) (now (sets .entry)))
         (memories (now (relations .exit)) (now (sets .entry))) (now (work .entry)) (now (work .exit)) r ⌝ }
 {
     packed(relations, sets, work, RelationCall::Intersect(a, b))
@@ -108,8 +113,8 @@ pub extern "C" fn packet_store_relation_xor(
     work: &mut [u32],
     a: u32,
     b: u32,
-) -> u64
-    ensures { λ r. ⌜ Answers (step (relation-call (Xor a b)) (memories (now (relations .entry)) (now (sets .entry))))
+) -> packing::AddedReply
+    ensures { λ r. ⌜ AnswersAdded (step (relation-call (Xor a b))) (memories (now (relations .entry)) (now (sets .entry)))
         (memories (now (relations .exit)) (now (sets .entry))) (now (work .entry)) (now (work .exit)) r ⌝ }
 {
     packed(relations, sets, work, RelationCall::Xor(a, b))
@@ -123,8 +128,8 @@ pub extern "C" fn packet_store_relation_difference(
     work: &mut [u32],
     a: u32,
     b: u32,
-) -> u64
-    ensures { λ r. ⌜ Answers (step (relation-call (Difference a b)) (memories (now (relations .entry)) (now (sets .entry))))
+) -> packing::AddedReply
+    ensures { λ r. ⌜ AnswersAdded (step (relation-call (Difference a b))) (memories (now (relations .entry)) (now (sets .entry)))
         (memories (now (relations .exit)) (now (sets .entry))) (now (work .entry)) (now (work .exit)) r ⌝ }
 {
     packed(relations, sets, work, RelationCall::Difference(a, b))
@@ -137,8 +142,8 @@ pub extern "C" fn packet_store_relation_complement(
     sets: &[u32],
     work: &mut [u32],
     a: u32,
-) -> u64
-    ensures { λ r. ⌜ Answers (step (relation-call (Complement a)) (memories (now (relations .entry)) (now (sets .entry))))
+) -> packing::AddedReply
+    ensures { λ r. ⌜ AnswersAdded (step (relation-call (Complement a))) (memories (now (relations .entry)) (now (sets .entry)))
         (memories (now (relations .exit)) (now (sets .entry))) (now (work .entry)) (now (work .exit)) r ⌝ }
 {
     packed(relations, sets, work, RelationCall::Complement(a))
@@ -152,8 +157,8 @@ pub extern "C" fn packet_store_relation_sequence(
     work: &mut [u32],
     a: u32,
     b: u32,
-) -> u64
-    ensures { λ r. ⌜ Answers (step (relation-call (Sequence a b)) (memories (now (relations .entry)) (now (sets .entry))))
+) -> packing::AddedReply
+    ensures { λ r. ⌜ AnswersAdded (step (relation-call (Sequence a b))) (memories (now (relations .entry)) (now (sets .entry)))
         (memories (now (relations .exit)) (now (sets .entry))) (now (work .entry)) (now (work .exit)) r ⌝ }
 {
     packed(relations, sets, work, RelationCall::Sequence(a, b))
@@ -166,8 +171,8 @@ pub extern "C" fn packet_store_relation_star(
     sets: &[u32],
     work: &mut [u32],
     a: u32,
-) -> u64
-    ensures { λ r. ⌜ Answers (step (relation-call (Star a)) (memories (now (relations .entry)) (now (sets .entry))))
+) -> packing::AddedReply
+    ensures { λ r. ⌜ AnswersAdded (step (relation-call (Star a))) (memories (now (relations .entry)) (now (sets .entry)))
         (memories (now (relations .exit)) (now (sets .entry))) (now (work .entry)) (now (work .exit)) r ⌝ }
 {
     packed(relations, sets, work, RelationCall::Star(a))
@@ -180,8 +185,8 @@ pub extern "C" fn packet_store_relation_flip(
     sets: &[u32],
     work: &mut [u32],
     a: u32,
-) -> u64
-    ensures { λ r. ⌜ Answers (step (relation-call (Flip a)) (memories (now (relations .entry)) (now (sets .entry))))
+) -> packing::AddedReply
+    ensures { λ r. ⌜ AnswersAdded (step (relation-call (Flip a))) (memories (now (relations .entry)) (now (sets .entry)))
         (memories (now (relations .exit)) (now (sets .entry))) (now (work .entry)) (now (work .exit)) r ⌝ }
 {
     packed(relations, sets, work, RelationCall::Flip(a))
@@ -195,8 +200,8 @@ pub extern "C" fn packet_store_relation_test(
     work: &mut [u32],
     var: u32,
     value: u32,
-) -> u64
-    ensures { λ r. ⌜ Answers (step (relation-call (Test var value)) (memories (now (relations .entry)) (now (sets .entry))))
+) -> packing::AddedReply
+    ensures { λ r. ⌜ AnswersAdded (step (relation-call (Test var value))) (memories (now (relations .entry)) (now (sets .entry)))
         (memories (now (relations .exit)) (now (sets .entry))) (now (work .entry)) (now (work .exit)) r ⌝ }
 {
     packed(relations, sets, work, RelationCall::Test(var, value))
@@ -210,8 +215,8 @@ pub extern "C" fn packet_store_relation_assign(
     work: &mut [u32],
     var: u32,
     value: u32,
-) -> u64
-    ensures { λ r. ⌜ Answers (step (relation-call (Assign var value)) (memories (now (relations .entry)) (now (sets .entry))))
+) -> packing::AddedReply
+    ensures { λ r. ⌜ AnswersAdded (step (relation-call (Assign var value))) (memories (now (relations .entry)) (now (sets .entry)))
         (memories (now (relations .exit)) (now (sets .entry))) (now (work .entry)) (now (work .exit)) r ⌝ }
 {
     packed(relations, sets, work, RelationCall::Assign(var, value))
@@ -224,8 +229,8 @@ pub extern "C" fn packet_store_relation_naive_forward(
     sets: &[u32],
     work: &mut [u32],
     a: u32,
-) -> u64
-    ensures { λ r. ⌜ Answers (step (relation-call (NaiveForward a)) (memories (now (relations .entry)) (now (sets .entry))))
+) -> packing::AddedReply
+    ensures { λ r. ⌜ AnswersAdded (step (relation-call (NaiveForward a))) (memories (now (relations .entry)) (now (sets .entry)))
         (memories (now (relations .exit)) (now (sets .entry))) (now (work .entry)) (now (work .exit)) r ⌝ }
 {
     packed(relations, sets, work, RelationCall::NaiveForward(a))
@@ -238,8 +243,8 @@ pub extern "C" fn packet_store_relation_backward(
     sets: &[u32],
     work: &mut [u32],
     a: u32,
-) -> u64
-    ensures { λ r. ⌜ Answers (step (relation-call (Backward a)) (memories (now (relations .entry)) (now (sets .entry))))
+) -> packing::AddedReply
+    ensures { λ r. ⌜ AnswersAdded (step (relation-call (Backward a))) (memories (now (relations .entry)) (now (sets .entry)))
         (memories (now (relations .exit)) (now (sets .entry))) (now (work .entry)) (now (work .exit)) r ⌝ }
 {
     packed(relations, sets, work, RelationCall::Backward(a))

@@ -2,15 +2,20 @@
 ghost use Rattle.store_check.specs.Memory.{memories};
 ghost use Rattle.store.specs.Calls.{set-call, step};
 ghost use Rattle.store.specs.declared.set_calls.SetCall.the-variants.{Mk, Zero, One, Union, Intersect, Xor, Difference, Test, Ifelse};
-ghost use Rattle.packing.specs.Returns.{Answers};
+ghost use Rattle.packing.specs.Returns.{AnswersAdded};
 use store::set_calls::SetCall;
 
-// Any of these calls, its answer packed.
-fn packed(relations: &[u32], sets: &mut [u32], work: &mut [u32], call: SetCall) -> u64
-    ensures { λ r. ⌜ Answers (step (set-call call) (memories (now (relations .entry)) (now (sets .entry))))
+// Any of these calls, its reply packed.
+fn packed(
+    relations: &[u32],
+    sets: &mut [u32],
+    work: &mut [u32],
+    call: SetCall,
+) -> packing::AddedReply
+    ensures { λ r. ⌜ AnswersAdded (step (set-call call)) (memories (now (relations .entry)) (now (sets .entry)))
         (memories (now (relations .entry)) (now (sets .exit))) (now (work .entry)) (now (work .exit)) r ⌝ }
 {
-    packing::pack(store::set_calls::set_call(relations, sets, work, call))
+    packing::pack_reply(store::set_calls::set_call(relations, sets, work, call))
 }
 
 // The set with these children.
@@ -21,8 +26,8 @@ pub extern "C" fn packet_store_set_mk(
     work: &mut [u32],
     x0: u32,
     x1: u32,
-) -> u64
-    ensures { λ r. ⌜ Answers (step (set-call (Mk x0 x1)) (memories (now (relations .entry)) (now (sets .entry))))
+) -> packing::AddedReply
+    ensures { λ r. ⌜ AnswersAdded (step (set-call (Mk x0 x1))) (memories (now (relations .entry)) (now (sets .entry)))
         (memories (now (relations .entry)) (now (sets .exit))) (now (work .entry)) (now (work .exit)) r ⌝ }
 {
     packed(relations, sets, work, SetCall::Mk(x0, x1))
@@ -34,8 +39,8 @@ pub extern "C" fn packet_store_set_zero(
     relations: &[u32],
     sets: &mut [u32],
     work: &mut [u32],
-) -> u64
-    ensures { λ r. ⌜ Answers (step (set-call Zero) (memories (now (relations .entry)) (now (sets .entry))))
+) -> packing::AddedReply
+    ensures { λ r. ⌜ AnswersAdded (step (set-call Zero)) (memories (now (relations .entry)) (now (sets .entry)))
         (memories (now (relations .entry)) (now (sets .exit))) (now (work .entry)) (now (work .exit)) r ⌝ }
 {
     packed(relations, sets, work, SetCall::Zero)
@@ -43,8 +48,12 @@ pub extern "C" fn packet_store_set_zero(
 
 // The full set of level k.
 #[no_mangle]
-pub extern "C" fn packet_store_set_one(relations: &[u32], sets: &mut [u32], work: &mut [u32]) -> u64
-    ensures { λ r. ⌜ Answers (step (set-call One) (memories (now (relations .entry)) (now (sets .entry))))
+pub extern "C" fn packet_store_set_one(
+    relations: &[u32],
+    sets: &mut [u32],
+    work: &mut [u32],
+) -> packing::AddedReply
+    ensures { λ r. ⌜ AnswersAdded (step (set-call One)) (memories (now (relations .entry)) (now (sets .entry)))
         (memories (now (relations .entry)) (now (sets .exit))) (now (work .entry)) (now (work .exit)) r ⌝ }
 {
     packed(relations, sets, work, SetCall::One)
@@ -58,8 +67,8 @@ pub extern "C" fn packet_store_set_union(
     work: &mut [u32],
     a: u32,
     b: u32,
-) -> u64
-    ensures { λ r. ⌜ Answers (step (set-call (Union a b)) (memories (now (relations .entry)) (now (sets .entry))))
+) -> packing::AddedReply
+    ensures { λ r. ⌜ AnswersAdded (step (set-call (Union a b))) (memories (now (relations .entry)) (now (sets .entry)))
         (memories (now (relations .entry)) (now (sets .exit))) (now (work .entry)) (now (work .exit)) r ⌝ }
 {
     packed(relations, sets, work, SetCall::Union(a, b))
@@ -73,8 +82,8 @@ pub extern "C" fn packet_store_set_intersect(
     work: &mut [u32],
     a: u32,
     b: u32,
-) -> u64
-    ensures { λ r. ⌜ Answers (step (set-call (Intersect a b)) (memories (now (relations .entry)) (now (sets .entry))))
+) -> packing::AddedReply
+    ensures { λ r. ⌜ AnswersAdded (step (set-call (Intersect a b))) (memories (now (relations .entry)) (now (sets .entry)))
         (memories (now (relations .entry)) (now (sets .exit))) (now (work .entry)) (now (work .exit)) r ⌝ }
 {
     packed(relations, sets, work, SetCall::Intersect(a, b))
@@ -88,8 +97,8 @@ pub extern "C" fn packet_store_set_xor(
     work: &mut [u32],
     a: u32,
     b: u32,
-) -> u64
-    ensures { λ r. ⌜ Answers (step (set-call (Xor a b)) (memories (now (relations .entry)) (now (sets .entry))))
+) -> packing::AddedReply
+    ensures { λ r. ⌜ AnswersAdded (step (set-call (Xor a b))) (memories (now (relations .entry)) (now (sets .entry)))
         (memories (now (relations .entry)) (now (sets .exit))) (now (work .entry)) (now (work .exit)) r ⌝ }
 {
     packed(relations, sets, work, SetCall::Xor(a, b))
@@ -103,8 +112,8 @@ pub extern "C" fn packet_store_set_difference(
     work: &mut [u32],
     a: u32,
     b: u32,
-) -> u64
-    ensures { λ r. ⌜ Answers (step (set-call (Difference a b)) (memories (now (relations .entry)) (now (sets .entry))))
+) -> packing::AddedReply
+    ensures { λ r. ⌜ AnswersAdded (step (set-call (Difference a b))) (memories (now (relations .entry)) (now (sets .entry)))
         (memories (now (relations .entry)) (now (sets .exit))) (now (work .entry)) (now (work .exit)) r ⌝ }
 {
     packed(relations, sets, work, SetCall::Difference(a, b))
@@ -118,8 +127,8 @@ pub extern "C" fn packet_store_set_test(
     work: &mut [u32],
     var: u32,
     value: u32,
-) -> u64
-    ensures { λ r. ⌜ Answers (step (set-call (Test var value)) (memories (now (relations .entry)) (now (sets .entry))))
+) -> packing::AddedReply
+    ensures { λ r. ⌜ AnswersAdded (step (set-call (Test var value))) (memories (now (relations .entry)) (now (sets .entry)))
         (memories (now (relations .entry)) (now (sets .exit))) (now (work .entry)) (now (work .exit)) r ⌝ }
 {
     packed(relations, sets, work, SetCall::Test(var, value))
@@ -134,8 +143,8 @@ pub extern "C" fn packet_store_set_ifelse(
     var: u32,
     t: u32,
     e: u32,
-) -> u64
-    ensures { λ r. ⌜ Answers (step (set-call (Ifelse var t e)) (memories (now (relations .entry)) (now (sets .entry))))
+) -> packing::AddedReply
+    ensures { λ r. ⌜ AnswersAdded (step (set-call (Ifelse var t e))) (memories (now (relations .entry)) (now (sets .entry)))
         (memories (now (relations .entry)) (now (sets .exit))) (now (work .entry)) (now (work .exit)) r ⌝ }
 {
     packed(relations, sets, work, SetCall::Ifelse(var, t, e))

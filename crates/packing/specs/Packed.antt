@@ -3,7 +3,9 @@ use mathlib.Core.List.{List}
 use Prim.Native.Nat.{ℕ, _+_, _*_, _^_}
 use lib.ListN.{getD, set as put}
 use Rattle.call_rules.specs.Answers.{refusal, values}
+use Rattle.packing.specs.declared.AddedReply.{AddedReply}
 use Rattle.packing.specs.declared.PairReply.{PairReply}
+use Rattle.call_rules.specs.declared.added.NodeCounts.{NodeCounts}
 use Rattle.call_rules.specs.declared.Answer.{Answer}
 use Rattle.call_rules.specs.declared.Answer.the-variants.{Handle, Truth, SetNode, RelationNode, Declined, Pair, Nothing}
 
@@ -13,6 +15,13 @@ halves r vs = r * 2 ^ 32 + getD vs 0 0
 
 abbrev pub packed : Answer → ℕ
 packed a = halves (refusal a) (values a)
+
+-- a packed answer with the nodes that its call added
+abbrev pub with-added : ℕ → NodeCounts → AddedReply
+with-added a n = record { answer = a; relations = n .relations; sets = n .sets }
+
+abbrev pub packed-reply : Answer × NodeCounts → AddedReply
+packed-reply r = with-added (packed (r .0)) (r .1)
 
 -- the pair in an answer, 0 and 0 where there is none
 abbrev pub pair-in : Answer → ℕ × ℕ

@@ -1,6 +1,6 @@
 // An answer as C takes it.
 ghost use mathlib.Core.Path.{_≡_};
-ghost use Rattle.packing.specs.Packed.{packed, packed-pair, filled-set, filled-relation};
+ghost use Rattle.packing.specs.Packed.{packed, packed-pair, with-added, packed-reply, filled-set, filled-relation};
 
 // The number of the refusal in the high half, or 0; the first value in the low half, or 0.
 pub fn pack(a: call_rules::Answer) -> u64
@@ -15,6 +15,34 @@ pub fn pack(a: call_rules::Answer) -> u64
         call_rules::Answer::Pair(_, _) => 1,
         call_rules::Answer::Nothing => 0,
     }
+}
+
+// An answer with the relation nodes and the set nodes that the call added, as C takes it.
+#[repr(C)]
+pub struct AddedReply {
+    pub answer: u64,
+    pub relations: u32,
+    pub sets: u32,
+}
+
+// A packed answer with the nodes that its call added.
+pub fn with_added(answer: u64, added: call_rules::added::NodeCounts) -> AddedReply
+    ensures { λ r. ⌜ r ≡ with-added answer added ⌝ }
+{
+    AddedReply {
+        answer: answer,
+        relations: added.relations,
+        sets: added.sets,
+    }
+}
+
+// The answer packed, and the nodes added.
+pub fn pack_reply(r: call_rules::Reply) -> AddedReply
+    ensures { λ c. ⌜ c ≡ packed-reply (r .answer, r .added) ⌝ }
+{
+    let answer = r.answer;
+    let added = r.added;
+    with_added(pack(answer), added)
 }
 
 // An answer with the pair that it has, as C takes it.

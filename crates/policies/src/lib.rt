@@ -5,7 +5,7 @@ ghost use Rattle.model.specs.Store.{rel};
 ghost use Rattle.store_check.specs.Memory.{memories, fields};
 ghost use Rattle.call_rules.specs.Checking.{CheckedStore};
 ghost use Rattle.call_rules.specs.Outcome.{outcome};
-ghost use Rattle.call_rules.specs.Promise.{Meets};
+ghost use Rattle.call_rules.specs.Promise.{Meets, Replies};
 ghost use Rattle.policy_text.specs.XForms.{x-forms};
 ghost use Rattle.policy_text.specs.Reading.{reading};
 ghost use Rattle.policy_text.specs.declared.Reading.the-variants.{Policy};
@@ -34,6 +34,12 @@ pub enum PolicyRefusal {
 pub enum PolicyAnswer {
     Handle(u32),
     Declined(PolicyRefusal),
+}
+
+// What a policy call returns: its answer, and the nodes that it added.
+pub struct PolicyReply {
+    pub answer: PolicyAnswer,
+    pub added: call_rules::added::NodeCounts,
 }
 
 // Document 01's number of a fault.
@@ -108,7 +114,7 @@ fn run_checked(relations: &mut [u32], sets: &[u32], work: &mut [u32], text: &[u8
 }
 
 // A policy on any numbers in both memories, and any bytes as its text.
-pub fn policy(relations: &mut [u32], sets: &[u32], work: &mut [u32], text: &[u8]) -> PolicyAnswer
+fn run(relations: &mut [u32], sets: &[u32], work: &mut [u32], text: &[u8]) -> PolicyAnswer
     ensures { λ r. ⌜ Meets (policy-step (now (text .entry)) (memories (now (relations .entry)) (now (sets .entry))))
         (memories (now (relations .exit)) (now (sets .entry))) (now (work .entry)) (now (work .exit)) r ⌝ }
 {
@@ -119,4 +125,18 @@ pub fn policy(relations: &mut [u32], sets: &[u32], work: &mut [u32], text: &[u8]
     let r = run_checked(relations, sets, work, text);
     memory::clear(work);
     r
+}
+
+// The same, with the nodes that it added.
+pub fn policy(relations: &mut [u32], sets: &[u32], work: &mut [u32], text: &[u8]) -> PolicyReply
+    ensures { λ r. ⌜ Replies (policy-step (now (text .entry))) (memories (now (relations .entry)) (now (sets .entry)))
+        (memories (now (relations .exit)) (now (sets .entry))) (now (work .entry)) (now (work .exit)) (r .answer) (r .added) ⌝ }
+{
+    let before = call_rules::added::held(relations, sets);
+    let answer = run(relations, sets, work, text);
+    let after = call_rules::added::held(relations, sets);
+    PolicyReply {
+        answer: answer,
+        added: call_rules::added::since(before, after),
+    }
 }

@@ -27,12 +27,17 @@ fn answer(
     call: Call,
 ) -> call_rules::Answer {
     match call {
-        Call::AddsSet(c) => store::set_calls::set_call(relations, sets, work, c),
+        Call::AddsSet(c) => store::set_calls::set_call(relations, sets, work, c).answer,
         Call::ReadsSet(c) => store::set_reads::set_read(relations, sets, work, c),
-        Call::AddsRelation(c) => store::relation_calls::relation_call(relations, sets, work, c),
+        Call::AddsRelation(c) => store::relation_calls::relation_call(
+            relations,
+            sets,
+            work,
+            c,
+        ).answer,
         Call::ReadsRelation(c) => store::relation_reads::relation_read(relations, sets, work, c),
-        Call::AddsImage(c) => store::image_calls::image_call(relations, sets, work, c),
-        Call::AddsFilter(c) => store::filter_calls::filter_call(relations, sets, work, c),
+        Call::AddsImage(c) => store::image_calls::image_call(relations, sets, work, c).answer,
+        Call::AddsFilter(c) => store::filter_calls::filter_call(relations, sets, work, c).answer,
         Call::ReadsPath(c) => store::path_reads::path_read(relations, sets, work, c),
         Call::New(_, _, _) => call_rules::Answer::Declined(call_rules::Refusal::NotStore),
         Call::Nothing => call_rules::Answer::Declined(call_rules::Refusal::NotStore),
@@ -68,7 +73,7 @@ fn begin(
     if sl > sets.len() {
         return Step::End;
     }
-    let a = new_store::new(&mut relations[..rl], &mut sets[..sl], work, k);
+    let a = new_store::new(&mut relations[..rl], &mut sets[..sl], work, k).answer;
     if let call_rules::Answer::Declined(_) = a {
         crate::answers::write(a, relations[RELATION_COUNT], sets[SET_COUNT]);
         return Step::On(lent);

@@ -5,7 +5,7 @@ ghost use Rattle.model.specs.Store.{set, rel};
 ghost use Rattle.memory.specs.Performing.{PerformsOn, OtherNodes};
 ghost use Rattle.store_check.specs.Memory.{memories};
 ghost use Rattle.call_rules.specs.Outcome.{outcome};
-ghost use Rattle.call_rules.specs.Promise.{Meets};
+ghost use Rattle.call_rules.specs.Promise.{Meets, Replies};
 ghost use Rattle.store.specs.Calls.{filter-call, step};
 ghost use Rattle.store.specs.ImageCalls.{filter-declines, filter-program};
 ghost use Rattle.call_rules.specs.Checking.{Checks, CheckedStore};
@@ -93,7 +93,7 @@ fn run_checked(
 }
 
 // A call on any numbers in both memories.
-pub fn filter_call(
+fn run(
     relations: &mut [u32],
     sets: &[u32],
     work: &mut [u32],
@@ -109,4 +109,23 @@ pub fn filter_call(
     let r = run_checked(relations, sets, work, call);
     memory::clear(work);
     r
+}
+
+// The same, with the nodes that it added.
+pub fn filter_call(
+    relations: &mut [u32],
+    sets: &[u32],
+    work: &mut [u32],
+    call: FilterCall,
+) -> call_rules::Reply
+    ensures { λ r. ⌜ Replies (step (filter-call call)) (memories (now (relations .entry)) (now (sets .entry)))
+        (memories (now (relations .exit)) (now (sets .entry))) (now (work .entry)) (now (work .exit)) (r .answer) (r .added) ⌝ }
+{
+    let before = call_rules::added::held(relations, sets);
+    let answer = run(relations, sets, work, call);
+    let after = call_rules::added::held(relations, sets);
+    call_rules::Reply {
+        answer: answer,
+        added: call_rules::added::since(before, after),
+    }
 }

@@ -5,7 +5,7 @@ ghost use Rattle.model.specs.Store.{set};
 ghost use Rattle.memory.specs.Performing.{PerformsOn, OtherNodes};
 ghost use Rattle.store_check.specs.Memory.{memories};
 ghost use Rattle.call_rules.specs.Outcome.{outcome};
-ghost use Rattle.call_rules.specs.Promise.{Meets};
+ghost use Rattle.call_rules.specs.Promise.{Meets, Replies};
 ghost use Rattle.store.specs.Calls.{image-call, step};
 ghost use Rattle.store.specs.ImageCalls.{image-declines, image-program};
 ghost use Rattle.call_rules.specs.Checking.{ChecksBoth, CheckedStore};
@@ -119,12 +119,7 @@ fn run_checked(
 }
 
 // A call on any numbers in both memories.
-pub fn image_call(
-    relations: &[u32],
-    sets: &mut [u32],
-    work: &mut [u32],
-    call: ImageCall,
-) -> call_rules::Answer
+fn run(relations: &[u32], sets: &mut [u32], work: &mut [u32], call: ImageCall) -> call_rules::Answer
     ensures { λ r. ⌜ Meets (step (image-call call) (memories (now (relations .entry)) (now (sets .entry))))
         (memories (now (relations .entry)) (now (sets .exit))) (now (work .entry)) (now (work .exit)) r ⌝ }
 {
@@ -135,4 +130,23 @@ pub fn image_call(
     let r = run_checked(relations, sets, work, call);
     memory::clear(work);
     r
+}
+
+// The same, with the nodes that it added.
+pub fn image_call(
+    relations: &[u32],
+    sets: &mut [u32],
+    work: &mut [u32],
+    call: ImageCall,
+) -> call_rules::Reply
+    ensures { λ r. ⌜ Replies (step (image-call call)) (memories (now (relations .entry)) (now (sets .entry)))
+        (memories (now (relations .entry)) (now (sets .exit))) (now (work .entry)) (now (work .exit)) (r .answer) (r .added) ⌝ }
+{
+    let before = call_rules::added::held(relations, sets);
+    let answer = run(relations, sets, work, call);
+    let after = call_rules::added::held(relations, sets);
+    call_rules::Reply {
+        answer: answer,
+        added: call_rules::added::since(before, after),
+    }
 }

@@ -4,7 +4,7 @@ ghost use Rattle.model.specs.Store.{rel};
 ghost use Rattle.memory.specs.Performing.{Performs};
 ghost use Rattle.store_check.specs.Memory.{memories};
 ghost use Rattle.call_rules.specs.Outcome.{outcome};
-ghost use Rattle.call_rules.specs.Promise.{Meets};
+ghost use Rattle.call_rules.specs.Promise.{Meets, Replies};
 ghost use Rattle.store.specs.Calls.{relation-call, step};
 ghost use Rattle.store.specs.RelationCalls.{relation-declines, relation-program};
 ghost use Rattle.call_rules.specs.Checking.{Checks, CheckedStore};
@@ -148,7 +148,7 @@ fn run_checked(
 }
 
 // A call on any numbers in both memories.
-pub fn relation_call(
+fn run(
     relations: &mut [u32],
     sets: &[u32],
     work: &mut [u32],
@@ -164,4 +164,23 @@ pub fn relation_call(
     let r = run_checked(relations, sets, work, call);
     memory::clear(work);
     r
+}
+
+// The same, with the nodes that it added.
+pub fn relation_call(
+    relations: &mut [u32],
+    sets: &[u32],
+    work: &mut [u32],
+    call: RelationCall,
+) -> call_rules::Reply
+    ensures { λ r. ⌜ Replies (step (relation-call call)) (memories (now (relations .entry)) (now (sets .entry)))
+        (memories (now (relations .exit)) (now (sets .entry))) (now (work .entry)) (now (work .exit)) (r .answer) (r .added) ⌝ }
+{
+    let before = call_rules::added::held(relations, sets);
+    let answer = run(relations, sets, work, call);
+    let after = call_rules::added::held(relations, sets);
+    call_rules::Reply {
+        answer: answer,
+        added: call_rules::added::since(before, after),
+    }
 }

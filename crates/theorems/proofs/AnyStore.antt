@@ -1,8 +1,11 @@
 -- One call on any store whatever leaves a store with as many fields, and its nodes are only added to: from the law for one call.
-use mathlib.Core.Path.{_≡_, refl, sym, _∙_, subst}
+use mathlib.Core.Path.{_≡_, refl, sym, ap, _∙_, subst}
+use Prim.Native.Nat.{ℕ}
+use native.Mathlib.Omega.{arith}
 use Rattle.model.specs.Store.{set, rel}
 use Rattle.model.specs.WellFormed.{Extends}
-use Rattle.store.specs.Calls.{Call, new-store, set-call, set-read, relation-call, relation-read, image-call, filter-call, path-read, step}
+use Rattle.store.specs.Calls.{Call, step}
+use Rattle.theorems.specs.AllCalls.{call, begins, adds, effect}
 use Rattle.theorems.specs.Lists.{NewRefused, Matches}
 use Rattle.theorems.specs.PlainStore.{plain-store}
 use Rattle.store_check.specs.Memory.{Memories, memories, fields, decode, encode}
@@ -22,23 +25,17 @@ matches-own {M} s = record {
   written = sym (λ i. memories (same-memory rel (M .relations) (s .room rel) i) (same-memory set (M .sets) (s .room set) i));
 }
 
-abbrev pub IsNew : Call → Type 0
-IsNew (new-store k) = Unit {0}
-IsNew (set-call c) = ⊥
-IsNew (set-read c) = ⊥
-IsNew (relation-call c) = ⊥
-IsNew (relation-read c) = ⊥
-IsNew (image-call c) = ⊥
-IsNew (filter-call c) = ⊥
-IsNew (path-read c) = ⊥
-
 module _ {M : Memories} (s : IsStore M) (c : Call) where
   pub step-store : IsStore (step c M .state)
   step-store = call-right (matches-own s) c .alike .matches .store
 
-  module _ (o : IsNew c → ⊥) where
+  module _ (a : effect (call c) ≡ adds) where
     r : NewRefused c M
-    r k e = absurd (o (subst IsNew (sym e) tt))
+    unfolding effect
+    r k e = absurd (not-begins (sym a ∙ ap (λ x. effect (call x)) e))
+      where
+        not-begins : ¬ (adds ≡ begins)
+        not-begins z = let y : _≡_ {A = ℕ} 0 1 = cc z in omega arith
 
     pub step-fields : fields (step c M .state) ≡ fields M
     step-fields = call-right (matches-own s) c .alike .matches .width ∙ call-grown (matches-own s) c r .width

@@ -21,13 +21,13 @@ use Rattle.policies.specs.Outcome.{refused, policy-step}
 use Rattle.policies.specs.declared.PolicyAnswer.the-variants.{Handle, Declined}
 use Rattle.policies.specs.declared.PolicyRefusal.the-variants.{Store}
 use Rattle.theorems.specs.AllCalls.{AnyCall, policy, answered, read, any-step, all-calls, text-relates, WithinRules, policy-of}
-use Rattle.theorems.specs.EveryHistory.{arguments, answers, AcceptedIn, lent, memories-after, as-steps, plain-after, plain-run, HistoryRight}
+use Rattle.theorems.specs.EveryHistory.{arguments, replies, AcceptedIn, lent, memories-after, as-steps, plain-after, plain-run, HistoryRight}
 use Rattle.theorems.specs.Histories.{Made, LentInTurn, left-after, NoneRenews, History}
 use Rattle.theorems.specs.OneText.{TextRight}
 use Rattle.theorems.specs.Lists.{steps, AllContinue, ListRight, Matches, HandlesLast, after-new}
 use Rattle.theorems.specs.PlainStore.{Plain, plain-store, plain-policy-step}
 use Rattle.theorems.proofs.AllCalls.{policy-alike, any-right}
-use Rattle.theorems.proofs.Histories.{is-any-step, made-answers, made-end, made-continues, left-parted, lent-before, lent-later, none-before}
+use Rattle.theorems.proofs.Histories.{is-any-step, made-replies, made-end, made-continues, left-parted, lent-before, lent-later, none-before}
 use Rattle.theorems.proofs.Lists.{lists-right}
 use Rattle.theorems.proofs.OneText.{text-right}
 use Rattle.theorems.proofs.PlainText.{plain-text}
@@ -58,7 +58,7 @@ module _ (H : History) where
   unfolding any-step
   new-comes = (λ i. outcome (sym (H .accepted) i) M) ∙ is-any-step (H .new .promised) ∙ ap (λ x. any-step x M₀) (H .is-new)
 
-  new-answer : step (new-store k) M₀ .answer ≡ store.Handle (H .top)
+  pub new-answer : step (new-store k) M₀ .answer ≡ store.Handle (H .top)
   new-answer = let e = ap (λ t. t .answer) new-comes in sym (cc e)
 
   new-state : step (new-store k) M₀ .state ≡ M
@@ -69,8 +69,8 @@ module _ (H : History) where
 
   -- THE FIRST CALLS of the history
   module _ (cs : List Made) (h : LentInTurn M cs) where
-    answers-stepped : answers cs ≡ as-steps H cs .answers
-    answers-stepped = made-answers cs M h ∙ ap (λ X. steps all-calls (arguments cs) X .answers) (sym new-state)
+    replies-stepped : replies cs ≡ as-steps H cs .answers
+    replies-stepped = made-replies cs M h ∙ ap (λ X. steps all-calls (arguments cs) X .answers) (sym new-state)
 
     end-stepped : memories-after H cs ≡ as-steps H cs .state
     end-stepped = made-end cs M h ∙ ap (λ X. steps all-calls (arguments cs) X .state) (sym new-state)
@@ -140,13 +140,10 @@ module _ (H : History) where
         ap (λ u. u .answer) it-comes ∙ ap (λ X. read (policy-step t X .answer)) (lent-it ∙ there)
         ∙ ap read (policy-alike A t .answer ∙ kept-answer (set-places M₀) (rel-places M₀) k t (plain-after H before .state) width r)
 
-  abbrev CheckedStore : List ℕ → ℕ → Type 0
-  CheckedStore t h = AcceptedIn (H .calls) t h
-
-  relates-end : (t : List ℕ) (h : ℕ) → CheckedStore t h → Relates k (text-relates k t) end h
+  relates-end : (t : List ℕ) (h : ℕ) → AcceptedIn (H .calls) t h → Relates k (text-relates k t) end h
   relates-end t h A = relates-it t (A .before) (A .later) (A .it) (A .is) (A .text) h (A .handle)
 
-  keeps-rules : (t : List ℕ) (h : ℕ) → CheckedStore t h → WithinRules k t
+  keeps-rules : (t : List ℕ) (h : ℕ) → AcceptedIn (H .calls) t h → WithinRules k t
   keeps-rules t h A = subst (λ j. WithinRules j t) (width-it t (A .before) (A .later) (A .it) (A .is) (A .text))
       (right-it t (A .before) (A .later) (A .it) (A .is) (A .text) h (A .handle) .keeps)
 
@@ -157,9 +154,9 @@ module _ (H : History) where
   -- THE THEOREM
   pub every-history : HistoryRight H
   every-history = record {
-    steps-answers = answers-stepped (H .calls) (H .in-turn);
+    steps-replies = replies-stepped (H .calls) (H .in-turn);
     steps-end = end-stepped (H .calls) (H .in-turn);
-    plain-answers = answers-stepped (H .calls) (H .in-turn) ∙ right (arguments (H .calls)) .answers;
+    plain-replies = replies-stepped (H .calls) (H .in-turn) ∙ right (arguments (H .calls)) .answers;
     matches = subst (λ X. Matches M₀ X (plain-after H (H .calls) .state)) (sym (end-stepped (H .calls) (H .in-turn))) (right (arguments (H .calls)) .matches);
     width = width-after (H .calls) (H .in-turn) (H .none-renews);
     lasts = lasts-parted;
@@ -169,12 +166,13 @@ module _ (H : History) where
     refused = answered-it;
   }
 
--- so no answer, and nothing in the memories, depends on what the working memories held or how long they were: 01's demand 1, over the whole history
+-- so no answer, no number of nodes added and nothing in the memories depends on what the working memories held or how long they were:
+-- 01's demand 1, over the whole history
 pub by-arguments-alone : (H J : History) → H .width ≡ J .width → lent H ≡ lent J → arguments (H .calls) ≡ arguments (J .calls)
-    → (answers (H .calls) ≡ answers (J .calls)) × (memories-after H (H .calls) ≡ memories-after J (J .calls))
+    → (replies (H .calls) ≡ replies (J .calls)) × (memories-after H (H .calls) ≡ memories-after J (J .calls))
 by-arguments-alone H J w m a =
     let e : after-new all-calls (H .width) (lent H) (arguments (H .calls)) ≡ after-new all-calls (J .width) (lent J) (arguments (J .calls))
     = λ i. after-new all-calls (w i) (m i) (a i) in (
-      every-history H .steps-answers ∙ ap (λ l. l .answers) e ∙ sym (every-history J .steps-answers),
+      every-history H .steps-replies ∙ ap (λ l. l .answers) e ∙ sym (every-history J .steps-replies),
       every-history H .steps-end ∙ ap (λ l. l .state) e ∙ sym (every-history J .steps-end),
     )

@@ -1,7 +1,7 @@
 -- `bwd` after `ibwd` gives the set again: from what the two calls mean, and canonicity. The other way round it need not.
 use mathlib.Core.Path.{_≡_, refl, sym, ap, _∙_, subst}
 use mathlib.Core.Bool.{true}
-use mathlib.Core.Logic.{_↔_, Iff·trans}
+use mathlib.Core.Logic.{Iff·trans}
 use Prim.Native.Nat.{ℕ, _≤_}
 use Rattle.model.specs.Meaning.{Den, Relates, Domain}
 use Rattle.model.specs.Packets.{contains, relates}
@@ -20,6 +20,7 @@ use Rattle.call_rules.specs.declared.Answer.the-variants.{Handle, Declined}
 use Rattle.call_rules.specs.declared.Refusal.the-variants.{NotHeld}
 use Rattle.store.specs.declared.image_calls.ImageCall.the-variants.{Bwd}
 use Rattle.store.specs.declared.filter_calls.FilterCall.the-variants.{Ibwd}
+use Rattle.theorems.specs.AllCalls.{effect}
 use Rattle.theorems.proofs.AnyStore.{step-store, step-fields, step-extends}
 use Rattle.call_rules.proofs.Handles.{held-here, one-none}
 use Rattle.theorems.proofs.ImageMeans.{image-call-means, filter-call-means}
@@ -47,15 +48,15 @@ module _ (M : Memories) (p r : ℕ) (s : IsStore M) (e : step (filter-call (Ibwd
       ∙ sym (filter-steps (Ibwd p) M)) ∙ e))) refl
 
   pub bwd-after-ibwd : (h : ℕ) → step (image-call (Bwd r)) M₁ .answer ≡ Handle h → h ≡ p
-  unfolding image-meaning filter-meaning
+  unfolding image-meaning filter-meaning effect
   bwd-after-ibwd h f =
       let t = held-here set (s .formed) p held-operand in
       let l = level-of (fields M) set (decode M) p in
       let s₁ = step-store s (filter-call (Ibwd p)) in
       let A : Relates l (λ x y. contains (decode M) p x) (decode M₁) r = filter-call-means (Ibwd p) M r s e in
       let q : level-of (fields M₁) rel (decode M₁) r ≡ l
-      = level-is rel (decode M₁) (fields M₁) l r (subst (λ k. l ≤ k) (sym (step-fields s (filter-call (Ibwd p)) (λ x. x))) (t .0)) (A .held) in
+      = level-is rel (decode M₁) (fields M₁) l r (subst (λ k. l ≤ k) (sym (step-fields s (filter-call (Ibwd p)) refl)) (t .0)) (A .held) in
       domain-of (step-store s₁ (image-call (Bwd r)) .formed)
-      (ext-trans (step-extends s (filter-call (Ibwd p)) (λ x. x)) (step-extends s₁ (image-call (Bwd r)) (λ x. x)))
+      (ext-trans (step-extends s (filter-call (Ibwd p)) refl) (step-extends s₁ (image-call (Bwd r)) refl))
       (t .1) A (subst (λ l. Den set l (Domain l (relates (decode M₁) r)) (decode (step (image-call (Bwd r)) M₁ .state)) h) q
       (image-call-means (Bwd r) M₁ h s₁ f))

@@ -18,6 +18,11 @@ pub mod OneText
 pub mod AllCalls
 pub mod Histories
 pub mod EveryHistory
+pub mod Refusing
 pub mod AcceptedAlone
+pub mod AnyMemories
+pub mod Added
+pub mod MkAdded
 pub mod WrongTexts
 pub mod Worked
+pub mod WrongCounts

@@ -29,11 +29,11 @@ module _ {C A : Type 0} (Z : Calling C A) (right : (M₀ M : Memories) (P : Plai
     abbrev on : C → Memories → Outcome A Memories
     on = Z .on-memories
 
-    abbrev other-nodes : C → Plain → Outcome A Plain
-    other-nodes = Z .on-plain (set-places M₀) (rel-places M₀)
+    abbrev plainly : C → Plain → Outcome A Plain
+    plainly = Z .on-plain (set-places M₀) (rel-places M₀)
 
     kept : (c : C) (M : Memories) (P : Plain) → Matches M₀ M P
-        → (answer-of on c M ≡ answer-of other-nodes c P) × Matches M₀ (left-by on c M) (left-by other-nodes c P)
+        → (answer-of on c M ≡ answer-of plainly c P) × Matches M₀ (left-by on c M) (left-by plainly c P)
     kept c M P m = let t = right M₀ M P m c .alike in (t .answer, t .matches)
 
     module _ (cs : List C) {M : Memories} {P : Plain} (m : Matches M₀ M P) where
@@ -41,13 +41,13 @@ module _ {C A : Type 0} (Z : Calling C A) (right : (M₀ M : Memories) (P : Plai
       ended = plain-steps Z (set-places M₀) (rel-places M₀) cs P
 
       list-answers : steps Z cs M .answers ≡ ended .answers
-      list-answers = turn-answers (answer-of on) (left-by on) (answer-of other-nodes) (left-by other-nodes) (Matches M₀) kept cs M P m
+      list-answers = turn-answers (answer-of on) (left-by on) (answer-of plainly) (left-by plainly) (Matches M₀) kept cs M P m
 
       list-matches : Matches M₀ (steps Z cs M .state) (ended .state)
-      list-matches = turn-kept (answer-of on) (left-by on) (answer-of other-nodes) (left-by other-nodes) (Matches M₀) kept cs M P m
+      list-matches = turn-kept (answer-of on) (left-by on) (answer-of plainly) (left-by plainly) (Matches M₀) kept cs M P m
 
       list-continues : AllContinue Z cs M → ContinuesTo P (ended .state)
-      list-continues r = turn-continues (answer-of on) (left-by on) (answer-of other-nodes) (left-by other-nodes) (Matches M₀) kept (Z .Continues) ContinuesTo
+      list-continues r = turn-continues (answer-of on) (left-by on) (answer-of plainly) (left-by plainly) (Matches M₀) kept (Z .Continues) ContinuesTo
           continues-none continues-then
           (λ c M P m. right M₀ M P m c .continues) cs M P m r
 

@@ -31,11 +31,14 @@ module _ {M₀ M : Memories} {P : Plain} (A : Matches M₀ M P) where
   pub matches-headed : (K : Kind) → head K ≤ length (memory K M₀)
   matches-headed K = subst (λ n. head K ≤ n) (A .long K) (A .store .room K .headed)
 
+  pub matches-count : (K : Kind) → count K (memory K M) ≡ length (nodes K (P .lists))
+  matches-count K = ap (λ M. count K (memory K M)) (A .written) ∙ encode-count (P .width) (P .lists) M₀ K
+
   pub matches-space : Space (P .lists) M₀
   matches-space = record {
     headed = matches-headed;
-    within = λ K. subst (λ n. length (nodes K (P .lists)) ≤ n) (A .places K) (subst (λ n. n ≤ places-in K (memory K M))
-        (ap (λ M. count K (memory K M)) (A .written) ∙ encode-count (P .width) (P .lists) M₀ K) (A .store .room K .within));
+    within = λ K. subst (λ n. length (nodes K (P .lists)) ≤ n) (A .places K)
+        (subst (λ n. n ≤ places-in K (memory K M)) (matches-count K) (A .store .room K .within));
   }
 
   -- the next store written over it

@@ -2,7 +2,6 @@
 use mathlib.Core.Path.{_≡_, refl, sym, ap, _∙_, subst}
 use mathlib.Core.Bool.{true}
 use Prim.Native.Nat.{ℕ}
-use lib.ListN.{length}
 use borrow.Author.Tests.{le-leb}
 use Rattle.model.specs.Images.{blank, new}
 use Rattle.model.specs.Meaning.{Den, Relates}
@@ -10,11 +9,11 @@ use Rattle.model.specs.Operations.{zero-at-depth, one-at-depth, top-at-depth}
 use Rattle.model.specs.Places.{fits-places}
 use Rattle.model.specs.Programs.{Prog, bind, _>>=_, Ran, run}
 use Rattle.model.specs.Safety.{Safe, Settled}
-use Rattle.model.specs.Store.{Kind, set, rel, Store, nodes, pick}
+use Rattle.model.specs.Store.{set, rel, Store, pick}
 use Rattle.model.proofs.Extends.{ext-refl}
 use Rattle.model.proofs.New.{new-does, new-counts}
 use Rattle.model.proofs.Settle.{run-ext, settled, settled-later}
-use Rattle.store_check.specs.Memory.{Memories, memory, count, fields, decode, encode}
+use Rattle.store_check.specs.Memory.{Memories, fields, decode, encode}
 use Rattle.call_rules.specs.OnMemories.{set-places, rel-places}
 use Rattle.call_rules.specs.Outcome.{runs, as-handle, outcome, finishes}
 use Rattle.call_rules.specs.declared.Answer.the-variants.{Handle, Declined}
@@ -27,8 +26,7 @@ use Rattle.theorems.specs.Lists.{Matches}
 use Rattle.theorems.specs.NewStore.{There, NewRight}
 use Rattle.theorems.specs.PlainStore.{Plain, plain-store, asked, on-lists, plain-step, begun}
 use Rattle.theorems.proofs.CallMeans.{set-call-means, relation-call-means}
-use Rattle.call_rules.proofs.Encoding.{encode-count}
-use Rattle.theorems.proofs.Matching.{matches-space}
+use Rattle.theorems.proofs.Matching.{matches-count, matches-space}
 use Rattle.theorems.proofs.NewMatches.{new-matches}
 use Rattle.theorems.proofs.OneCall.{call-right}
 
@@ -114,9 +112,6 @@ module _ (k : ℕ) (M : Memories) (h : ℕ) (e : step (new-store k) M .answer �
       handles : {g h : ℕ} → Handle g ≡ Handle h → g ≡ h
       handles e = cc e
 
-  counted : (K : Kind) → count K (memory K M′) ≡ length (nodes K S)
-  counted K = ap (λ X. count K (memory K X)) (A .written) ∙ encode-count k S M K
-
   -- a call that runs a part of `new`; Q is what its handle means in a store of as many fields
   there : (c : Call) (Q : ℕ → Store → ℕ → Type 0) (p : Prog) (r : ℕ) → Settled p S r
       → plain-step (set-places M) (rel-places M) c (begun k)
@@ -135,8 +130,8 @@ module _ (k : ℕ) (M : Memories) (h : ℕ) (e : step (new-store k) M .answer �
   new-right = let t = parts k in record {
     store = A .store;
     width = A .width;
-    relations = counted rel ∙ new-counts k .0;
-    sets = counted set ∙ new-counts k .1;
+    relations = matches-count A rel ∙ new-counts k .0;
+    sets = matches-count A set ∙ new-counts k .1;
     written = A .written ∙ ap (λ T. encode k T M) (sym (A .lists));
     full = subst (λ T. Relates k (λ p q. Unit {0}) T h) (sym (A .lists)) (subst (Relates k (λ p q. Unit {0}) S) answered (new-does k .after .post));
     top = call-there A (relation-call R.Top) (top-at-depth k) _ (t .top) refl ∙ ap (λ h. outcome (Handle h) M′) answered;

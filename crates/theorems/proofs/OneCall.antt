@@ -22,7 +22,7 @@ use Rattle.store.specs.Calls.{step}
 use Rattle.call_rules.specs.OnMemories.{set-places, rel-places, on-store, heads?, new-step}
 use Rattle.store.specs.ImageCalls.{image-declines, image-program, image-verdict, filter-declines, filter-program, filter-verdict, path-declines, path-answer}
 use Rattle.store.specs.ImageCalls.{path-verdict}
-use Rattle.theorems.specs.Lists.{Calling, Refused, NewRefused, Matches, Alike, ContinuesTo, store-calls, CallRight}
+use Rattle.theorems.specs.Lists.{Refused, NewRefused, Matches, Alike, ContinuesTo, store-calls, CallRight}
 use Rattle.theorems.specs.PlainStore.{Plain, plain-store, asked, on-lists, plain-step}
 use Rattle.store_check.specs.Memory.{Memories, memory, head, fields, decode, encode}
 use Rattle.call_rules.specs.Outcome.{Verdict, gives, runs, unless-declined, as-handle, guard, Outcome, outcome, map-answer, finishes}
@@ -31,6 +31,7 @@ use Rattle.store.specs.RelationCalls.{relation-read-verdict}
 use Rattle.store.specs.SetCalls.{set-declines, set-program, set-verdict, set-read-declines, set-read-answer, set-read-verdict}
 use Rattle.call_rules.specs.declared.Check.{Check}
 use Rattle.call_rules.specs.declared.Check.the-variants.{Level, No}
+use Rattle.call_rules.specs.declared.Answer.{Answer}
 use Rattle.call_rules.specs.declared.Answer.the-variants.{Handle, Declined}
 use Rattle.call_rules.specs.declared.Refusal.{Refusal}
 use Rattle.call_rules.specs.declared.Refusal.the-variants.{OutOfRange, NotStore, UsedUp}
@@ -175,13 +176,12 @@ module _ {M₀ M : Memories} {P : Plain} (A : Matches M₀ M P) where
             (new-does k .after .formed),
       )))
 
-  -- a call whose verdict on a store is v, of calls of any type; g makes their answers of its own
-  pub verdict-right : {C B D : Type 0} (Z : Calling C D) (c : C) (g : B → D) (refuse : Refusal → B) (v : ℕ → Store → Verdict B) → Sound v
-      → Z .on-memories c M ≡ map-answer g (on-store refuse v M) → Z .on-plain m n c P ≡ map-answer g (on-lists refuse m n v P) → CallRight Z M₀ M P c
-  verdict-right Z c g refuse v s e f = record {
-    alike = subst (λ t. Alike M₀ t (Z .on-plain m n c P)) (sym e)
-        (subst (Alike M₀ (map-answer g (on-store refuse v M))) (sym f) (map-answer-alike g (verdict-alike refuse v s)));
-    continues = λ r. subst (λ u. ContinuesTo P (u .state)) (sym f) (grown-continues (verdict-grown refuse m n v P));
+  -- a call of `store` whose verdict on a store is v
+  verdict-right : (c : Call) (v : ℕ → Store → Verdict Answer) → Sound v → step c M ≡ on-store Declined v M → plain-step m n c P ≡ on-lists Declined m n v P
+      → CallRight store-calls M₀ M P c
+  verdict-right c v s e f = record {
+    alike = subst (λ t. Alike M₀ t (plain-step m n c P)) (sym e) (subst (Alike M₀ (on-store Declined v M)) (sym f) (verdict-alike Declined v s));
+    continues = λ r. subst (λ u. ContinuesTo P (u .state)) (sym f) (grown-continues (verdict-grown Declined m n v P));
   }
 
   new-grown : (k : ℕ) → NewRefused (new-store k) M → Grown P (plain-step m n (new-store k) P .state)
@@ -208,13 +208,13 @@ module _ {M₀ M : Memories} {P : Plain} (A : Matches M₀ M P) where
   pub call-right : (c : Call) → CallRight store-calls M₀ M P c
   unfolding step plain-step asked on-lists
   call-right (new-store k) = new-right k
-  call-right (set-call c) = verdict-right store-calls (set-call c) (λ a. a) Declined (set-verdict c) (set-sound c) refl refl
-  call-right (set-read c) = verdict-right store-calls (set-read c) (λ a. a) Declined (set-read-verdict c)
+  call-right (set-call c) = verdict-right (set-call c) (set-verdict c) (set-sound c) refl refl
+  call-right (set-read c) = verdict-right (set-read c) (set-read-verdict c)
       (gives-sound Declined (λ k S. set-read-declines k c S) (λ S l. set-read-answer S l c)) refl refl
-  call-right (relation-call c) = verdict-right store-calls (relation-call c) (λ a. a) Declined (relation-verdict c) (relation-sound c) refl refl
-  call-right (relation-read c) = verdict-right store-calls (relation-read c) (λ a. a) Declined (relation-read-verdict c)
+  call-right (relation-call c) = verdict-right (relation-call c) (relation-verdict c) (relation-sound c) refl refl
+  call-right (relation-read c) = verdict-right (relation-read c) (relation-read-verdict c)
       (gives-sound Declined (λ k S. relation-read-declines k c S) (λ S l. relation-read-answer S l c)) refl refl
-  call-right (image-call c) = verdict-right store-calls (image-call c) (λ a. a) Declined (image-verdict c) (image-sound c) refl refl
-  call-right (filter-call c) = verdict-right store-calls (filter-call c) (λ a. a) Declined (filter-verdict c) (filter-sound c) refl refl
-  call-right (path-read c) = verdict-right store-calls (path-read c) (λ a. a) Declined (path-verdict c)
+  call-right (image-call c) = verdict-right (image-call c) (image-verdict c) (image-sound c) refl refl
+  call-right (filter-call c) = verdict-right (filter-call c) (filter-verdict c) (filter-sound c) refl refl
+  call-right (path-read c) = verdict-right (path-read c) (path-verdict c)
       (gives-sound Declined (λ k S. path-declines k c S) (λ S l. path-answer S l c)) refl refl

@@ -3,7 +3,7 @@
 use mathlib.Core.Path.{_≡_, refl, sym, ap, _∙_, subst}
 use mathlib.Core.List.{List, [], _∷_, map}
 use mathlib.Core.Bool.{Bool, true, _&&_}
-use Prim.Native.Nat.{ℕ, zero, suc, _+_, _-_, _*_, _/_, min}
+use Prim.Native.Nat.{ℕ, zero, suc, _+_, _-_, _*_}
 use native.Mathlib.Omega.{arith}
 use lib.Dec.{leb, T, leb→le}
 use lib.ListN.{length, length-drop}
@@ -22,6 +22,8 @@ use Rattle.model.specs.WellFormed.{level-of}
 use Rattle.model.proofs.Bools.{and-T}
 use Rattle.model.proofs.New.{new-value}
 use Rattle.store_check.specs.Memory.{Memories, head}
+use Rattle.call_rules.specs.Added.{node-counts, added-by-new}
+use Rattle.call_rules.specs.Answers.{refusal}
 use Rattle.call_rules.specs.OnMemories.{set-places, rel-places, new-step}
 use Rattle.call_rules.specs.Outcome.{guard, also, of-one, of-pair, of-path, of-four, outcome, finishes}
 use Rattle.call_rules.specs.declared.Answer.the-variants.{Handle, Declined}
@@ -35,20 +37,25 @@ use Rattle.policy_text.specs.Machine.{scan, final, byte-step, onward, mid-step,
 use Rattle.policy_text.specs.Reading.{first, test?, open-after, clean-inside?, clean?, offends?, rules, reading-of, reading}
 use Rattle.policy_text.specs.Answers.{tree-of, tree}
 use Rattle.policies.specs.Outcome.{of-reading, text-verdict}
-use Rattle.theorems.specs.AllCalls.{answered, any-step, plain-any-step, all-calls}
+use Rattle.theorems.specs.AllCalls.{AnyCall, call, answered, any-step, plain-any-step, effect, AnyReply, all-calls}
 use Rattle.theorems.specs.Lists.{in-turn, plain-steps}
 use Rattle.theorems.specs.PlainStore.{asked, on-lists, plain-step, plain-policy-step, begun}
-use Rattle.theorems.specs.Worked.{Expected, yields, refuses, TableRight, one-field, no-field, faults, lister-lines, two-fields, first-pairs, Worked}
+use Rattle.theorems.specs.Worked.{Expected, yields, refuses, RowsRight, TableRight, one-field, no-field, faults, lister-lines}
+use Rattle.theorems.specs.Worked.{two-fields, first-pairs, added, none-added, Worked}
 use Rattle.theorems.proofs.AllCalls.{any-right}
 use Rattle.theorems.proofs.Lists.{lists-right}
+use Rattle.theorems.proofs.NewStore.{new-right}
 
 -- THE PLAIN STORE: a table without its `new`, on the lists as `new k` leaves them, with m places for sets and n for relations
-abbrev without-new : List Expected → List Expected
+abbrev without-new : {B : Type 0} → List (AnyCall × B) → List (AnyCall × B)
 without-new [] = []
 without-new (w ∷ t) = t
 
+abbrev RowsPlainly : {B : Type 0} → (AnyReply → B) → ℕ → ℕ → ℕ → List (AnyCall × B) → Type 0
+RowsPlainly see k m n t = map see (plain-steps all-calls m n (map (λ w. w .0) t) (begun k) .answers) ≡ map (λ w. w .1) t
+
 abbrev Plainly : ℕ → ℕ → ℕ → List Expected → Type 0
-Plainly k m n t = plain-steps all-calls m n (map (λ w. w .0) t) (begun k) .answers ≡ map (λ w. w .1) t
+Plainly k m n t = RowsPlainly (λ r. r .0) k m n t
 
 calls-plain : Plainly 0 0 0 (without-new no-field) × Plainly 1 2 11 (without-new one-field) × Plainly 2 10 36 (without-new two-fields)
 unfolding in-turn plain-any-step plain-step asked on-lists finishes guard also of-one of-pair of-path of-four level-of packet
@@ -63,11 +70,13 @@ unfolding in-turn plain-any-step plain-step asked on-lists finishes guard also o
 pairs-plain = refl
 
 texts-plain : Plainly 1 1 3 (without-new faults) × Plainly 1 1 5 (without-new lister-lines)
-unfolding in-turn plain-any-step plain-policy-step on-lists finishes text-verdict of-reading policy-program
-    run get mk-store mk-handle place having agrees constant identity-at-depth union each-field test new op2 node2
+    × RowsPlainly (λ r. r) 1 2 6 (without-new added) × RowsPlainly (λ r. r) 1 1 4 (without-new none-added)
+unfolding in-turn plain-any-step effect plain-step plain-policy-step asked on-lists finishes text-verdict of-reading policy-program
+    guard also of-one of-pair of-four level-of
+    run get mk-store mk-handle place having agrees constant identity-at-depth union each-field test is-zero new op2 node2
     x-begins? x-whole? reading reading-of rules first field-number no-field? test? open-after clean-inside? clean? offends? reads scan final byte-step onward
     mid-step mid-go after-name close join-seq join-plus negs nesting leaf tree-of tree
-texts-plain = (refl, refl)
+texts-plain = (refl, refl, refl, refl)
 
 -- the handle of `new`: the full relation's
 abbrev top-of : ℕ → ℕ
@@ -84,7 +93,8 @@ abbrev enough? : ℕ → ℕ → ℕ → Bool
 enough? k a b = leb k 32 && (leb (head rel) a && (leb (head set) b && (leb (3 * k) (places-for rel a) && leb k (places-for set b))))
 
 -- a table that begins with an accepted `new`
-module _ (k a b : ℕ) (t : List Expected) (enough : enough? k a b ≡ true) (plain : Plainly k (places-for set b) (places-for rel a) t) where
+module _ {B : Type 0} (see : AnyReply → B) (k a b : ℕ) (t : List (AnyCall × B)) (enough : enough? k a b ≡ true)
+    (plain : RowsPlainly see k (places-for set b) (places-for rel a) t) where
   accepted : (M : Memories) → length (M .relations) ≡ a → length (M .sets) ≡ b → step (new-store k) M .answer ≡ Handle (top-of k)
   unfolding step
   accepted M ea eb =
@@ -95,16 +105,21 @@ module _ (k a b : ℕ) (t : List Expected) (enough : enough? k a b ≡ true) (pl
       ap (λ r. r .answer) (sym (fits-new k a b M ea eb (leb→le _ _ (u .0)) (leb→le _ _ (v .0)) (leb→le _ _ (w .0)) (leb→le _ _ (x .0)) (leb→le _ _ (x .1))))
       ∙ ap Handle (new-gives k)
 
-  begins : TableRight a b (yields (new-store k) (top-of k) ∷ t)
-  unfolding in-turn any-step
-  begins M ea eb =
+  rows-begin : RowsRight see a b ((call (new-store k), see (answered (Handle (top-of k)), node-counts (3 * k) k)) ∷ t)
+  unfolding in-turn any-step effect
+  rows-begin M ea eb =
       let e = accepted M ea eb in
+      let r = new-right k M (top-of k) e in
       let m : set-places M ≡ places-for set b = ap (λ l. places-of l (arity set)) (length-drop (head set) (M .sets) ∙ ap (λ l. l - head set) eb) in
       let n : rel-places M ≡ places-for rel a = ap (λ l. places-of l (arity rel)) (length-drop (head rel) (M .relations) ∙ ap (λ l. l - head rel) ea) in
       let cs = map (λ w. w .0) t in
-      let later = lists-right all-calls (λ M₀ M P A c. any-right A c) k M (top-of k) e cs .answers
-      ∙ (λ i. plain-steps all-calls (m i) (n i) cs (begun k) .answers) ∙ plain in
-      λ i. answered (e i) ∷ later i
+      let later = ap (map see) (lists-right all-calls (λ M₀ M P A c. any-right A c) k M (top-of k) e cs .answers)
+      ∙ (λ i. map see (plain-steps all-calls (m i) (n i) cs (begun k) .answers)) ∙ plain in
+      λ i. see (answered (e i), added-by-new (refusal (e i)) (node-counts (r .relations i) (r .sets i))) ∷ later i
+
+abbrev begins : (k a b : ℕ) (t : List Expected) → enough? k a b ≡ true → Plainly k (places-for set b) (places-for rel a) t
+    → TableRight a b (yields (new-store k) (top-of k) ∷ t)
+begins = rows-begin (λ r. r .0)
 
 -- a `new` that is refused
 new-refused : (k a b : ℕ) (r : Refusal) → ((M : Memories) → length (M .relations) ≡ a → length (M .sets) ≡ b → outcome (Declined r) M ≡ new-step k M)
@@ -125,6 +140,8 @@ worked = record {
   short-sets = new-refused 1 14 2 UsedUp (λ M ea eb. full-sets 1 14 2 M ea eb (omega arith) (omega arith) (omega arith) 0 1 refl refl (omega arith));
   policies = begins 1 14 3 (without-new faults) refl (texts-plain .0);
   listed = begins 1 22 3 (without-new lister-lines) refl (texts-plain .1);
+  added-nodes = rows-begin (λ r. r) 1 26 5 (without-new added) refl (texts-plain .2);
+  used-up = rows-begin (λ r. r) 1 18 3 (without-new none-added) refl (texts-plain .3);
   ordered = begins 2 146 21 (without-new two-fields) refl (calls-plain .2);
   first = begins 2 38 7 (without-new first-pairs) refl pairs-plain;
 }

@@ -20,7 +20,7 @@ use Rattle.call_rules.specs.Outcome.{guard, finishes}
 use Rattle.call_rules.specs.declared.Answer.the-variants as store
 use Rattle.policy_text.specs.XForms.{x-forms}
 use Rattle.policy_text.specs.Grammar.{Sum, a-zero, a-one, s-atom, p-one, u-one, u-plus}
-use Rattle.theorems.specs.AllCalls.{call, policy, answered, read, text-relates, WithinRules}
+use Rattle.theorems.specs.AllCalls.{call, policy, answered, read, any-step, text-relates, WithinRules}
 use Rattle.theorems.specs.EveryHistory.{AcceptedIn}
 use Rattle.theorems.specs.Histories.{Made, LentInTurn, NoneRenews, History}
 use Rattle.policies.specs.Outcome.{policy-step}
@@ -61,8 +61,15 @@ one-keeps = record {
 }
 
 -- a history of one text, on the store as `new` left it
+abbrev begun : Made
+begun = made (call (new-store 1)) lent []
+
 abbrev new-left : Memories
-new-left = step (new-store 1) lent .state
+new-left = begun .after
+
+new-accepted : begun .answer ≡ answered (store.Handle 4)
+unfolding any-step
+new-accepted = ap answered accepted
 
 abbrev called : List ℕ → Made
 called t = made (policy t) new-left []
@@ -78,10 +85,10 @@ renews-not t = (λ k a e q. absurd (let z : _≡_ {A = ℕ} 0 1 = cc e in omega 
 abbrev alone : List ℕ → History
 alone t = record {
   width = 1;
-  new = made (call (new-store 1)) lent [];
+  new = begun;
   is-new = refl;
   top = 4;
-  accepted = ap answered accepted;
+  accepted = new-accepted;
   calls = called t ∷ [];
   in-turn = lent-to-it t;
   none-renews = renews-not t;
@@ -97,6 +104,7 @@ one-accepted = every-history (alone one-text) .refused one-text [] [] (called on
 
 -- EVERY TEXT REFUSED, or every text on the store as `new` left it
 pub not-all-refused : ¬ ((t : List ℕ) → (r : PolicyRefusal) × (policy-step t new-left .answer ≡ Declined r))
+unfolding any-step
 not-all-refused f = let r = f zero-text in let e : policy-step zero-text new-left .answer ≡ Handle 2 = cc zero-accepted in not-handle (sym (r .1) ∙ e)
 
 -- ONE HANDLE for all texts

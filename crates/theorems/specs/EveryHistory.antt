@@ -13,17 +13,17 @@ use Rattle.call_rules.specs.OnMemories.{set-places, rel-places}
 use Rattle.call_rules.specs.declared.Refusal.the-variants.{UsedUp}
 use Rattle.policies.specs.declared.PolicyAnswer.the-variants.{Handle, Declined}
 use Rattle.policies.specs.declared.PolicyRefusal.the-variants.{Store}
-use Rattle.theorems.specs.AllCalls.{AnyAnswer, AnyCall, policy, read, all-calls, text-relates, WithinRules, policy-of}
+use Rattle.theorems.specs.AllCalls.{AnyCall, AnyReply, policy, read, all-calls, text-relates, WithinRules, policy-of}
 use Rattle.theorems.specs.Histories.{Made, History, left-after}
 use Rattle.theorems.specs.Lists.{Listed, Matches, HandlesLast, after-new, on-plain-store}
 use Rattle.theorems.specs.PlainStore.{Plain}
 
--- the arguments of calls that were made, and their answers
+-- the arguments of calls that were made, and their answers with the nodes that each added
 abbrev pub arguments : List Made → List AnyCall
 arguments cs = map (λ c. c .what) cs
 
-abbrev pub answers : List Made → List AnyAnswer
-answers cs = map (λ c. c .answer) cs
+abbrev pub replies : List Made → List AnyReply
+replies cs = map (λ c. (c .answer, c .added)) cs
 
 -- among the calls is one of the text t, accepted with the handle h
 pub record AcceptedIn (cs : List Made) (t : List ℕ) (h : ℕ) : Type 0 where
@@ -43,10 +43,10 @@ module _ (H : History) where
   memories-after cs = left-after (H .new .after) cs
 
   -- the same calls as a list of steps, and on the plain store: 01, "It is fed the calls' arguments and both numbers of places, no answers"
-  abbrev pub as-steps : List Made → Listed AnyAnswer Memories
+  abbrev pub as-steps : List Made → Listed AnyReply Memories
   as-steps cs = after-new all-calls (H .width) lent (arguments cs)
 
-  abbrev pub plain-after : List Made → Listed AnyAnswer Plain
+  abbrev pub plain-after : List Made → Listed AnyReply Plain
   plain-after cs = on-plain-store all-calls (H .width) lent (arguments cs)
 
   -- what the plain store makes of the policy x after the calls cs
@@ -55,11 +55,12 @@ module _ (H : History) where
 
   -- THE CLAIM
   pub record HistoryRight : Type 0 where
-    -- answers and end are those of the list of steps, whatever working memory each call was lent
-    pub steps-answers : answers (H .calls) ≡ as-steps (H .calls) .answers
+    -- answers, nodes added and end are those of the list of steps, whatever working memory each call was lent
+    pub steps-replies : replies (H .calls) ≡ as-steps (H .calls) .answers
     pub steps-end : memories-after (H .calls) ≡ as-steps (H .calls) .state
-    -- the answers are the plain store's, one by one; the memories are a store with its lists, and untouched where no place is
-    pub plain-answers : answers (H .calls) ≡ plain-after (H .calls) .answers
+    -- the answers are the plain store's, one by one, and the nodes that each call added are the growth of its lists;
+    -- the memories are a store with its lists, and untouched where no place is
+    pub plain-replies : replies (H .calls) ≡ plain-after (H .calls) .answers
     pub matches : Matches lent (memories-after (H .calls)) (plain-after (H .calls) .state)
     -- the number of fields stays, and each handle that was held after the first calls lasts to the end
     pub width : fields (memories-after (H .calls)) ≡ H .width

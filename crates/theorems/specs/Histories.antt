@@ -5,22 +5,31 @@ use mathlib.Core.List.{List, [], _∷_}
 use Prim.Native.Nat.{ℕ}
 use Rattle.store_check.specs.Memory.{Memories}
 use Rattle.store.specs.Calls.{Call, new-store, step}
-use Rattle.call_rules.specs.Promise.{Meets}
+use Rattle.call_rules.specs.Added.{node-counts, held-in, new-counted}
+use Rattle.call_rules.specs.Promise.{Meets, Replies}
 use Rattle.call_rules.specs.declared.Answer.{Answer}
 use Rattle.call_rules.specs.declared.Answer.the-variants.{Handle}
+use Rattle.call_rules.specs.declared.added.NodeCounts.{NodeCounts}
 use Rattle.policies.specs.Outcome.{policy-step}
 use Rattle.policies.specs.declared.PolicyAnswer.{PolicyAnswer}
-use Rattle.theorems.specs.AllCalls.{AnyCall, call, policy, AnyAnswer, answered, read}
+use Rattle.theorems.specs.AllCalls.{AnyCall, call, policy, AnyAnswer, answered, read, adds, reads, effect, AnyReply}
 use Rattle.theorems.specs.Lists.{Refused}
 
--- a function was called with the memories M and the working memory w, left M′ and w′ and returned an answer: what it promises holds.
--- The functions of `store` promise `Meets` of `step`, `new_store::new` of `new-step`, which is `step` of `new`, and `policies::policy` of `policy-step`
-pub data Promised : AnyCall → Memories → Memories → List ℕ → List ℕ → AnyAnswer → Type 0 where
-  of-call : {c : Call} {M M′ : Memories} {w w′ : List ℕ} {a : Answer} → Meets (step c M) M′ w w′ a → Promised (call c) M M′ w w′ (answered a)
-  of-policy : {t : List ℕ} {M M′ : Memories} {w w′ : List ℕ} {a : PolicyAnswer} → Meets (policy-step t M) M′ w w′ a
-      → Promised (policy t) M M′ w w′ (read a)
+-- a function was called with the memories M and the working memory w, left M′ and w′ and returned a reply: what it promises holds.
+-- The functions of `store` for calls that only read promise `Meets` of `step`, and return an answer alone; those for calls that may add nodes
+-- promise `Replies` of `step`, and so does `policies::policy` of `policy-step`. `new_store::new` promises `Meets` of `new-step`, which is
+-- `step` of `new`, with the nodes that the new store holds
+pub data Promised : AnyCall → Memories → Memories → List ℕ → List ℕ → AnyReply → Type 0 where
+  of-new : {k : ℕ} {M M′ : Memories} {w w′ : List ℕ} {a : Answer} {n : NodeCounts} → Meets (new-counted held-in (step (new-store k) M)) M′ w w′ (a, n)
+      → Promised (call (new-store k)) M M′ w w′ (answered a, n)
+  of-adding : {c : Call} {M M′ : Memories} {w w′ : List ℕ} {a : Answer} {n : NodeCounts} → effect (call c) ≡ adds → Replies (step c) M M′ w w′ a n
+      → Promised (call c) M M′ w w′ (answered a, n)
+  of-reading : {c : Call} {M M′ : Memories} {w w′ : List ℕ} {a : Answer} → effect (call c) ≡ reads → Meets (step c M) M′ w w′ a
+      → Promised (call c) M M′ w w′ (answered a, node-counts 0 0)
+  of-policy : {t : List ℕ} {M M′ : Memories} {w w′ : List ℕ} {a : PolicyAnswer} {n : NodeCounts} → Replies (policy-step t) M M′ w w′ a n
+      → Promised (policy t) M M′ w w′ (read a, n)
 
--- A CALL THAT WAS MADE, with the answer as the function returned it
+-- A CALL THAT WAS MADE, with the answer and the nodes added as the function returned them
 pub record Made : Type 0 where
   pub what : AnyCall
   pub before : Memories
@@ -28,7 +37,8 @@ pub record Made : Type 0 where
   pub work : List ℕ
   pub work′ : List ℕ
   pub answer : AnyAnswer
-  pub promised : Promised what before after work work′ answer
+  pub added : NodeCounts
+  pub promised : Promised what before after work work′ (answer, added)
 
 -- 01: "Each is lent the same two slices as the call before left them, and nothing else writes to them in between"; the first is lent M
 unfoldable pub LentInTurn : Memories → List Made → Type 0

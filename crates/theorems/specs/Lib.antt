@@ -9,4 +9,5 @@ pub mod NewStore
 pub mod Histories
 pub mod EveryHistory
 pub mod AcceptedAlone
+pub mod Added
 pub mod Worked

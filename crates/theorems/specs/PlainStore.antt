@@ -2,11 +2,13 @@
 use mathlib.Core.List.{List}
 use Prim.Native.Nat.{ℕ}
 use lib.Dec.{leb}
+use lib.ListN.{length}
 use Rattle.model.specs.Images.{blank, new}
 use Rattle.model.specs.Programs.{run}
 use Rattle.model.specs.Store.{Store}
 use Rattle.store.specs.Calls.{Call, new-store, set-call, set-read, relation-call, relation-read, image-call, filter-call, path-read}
 use Rattle.store.specs.ImageCalls.{image-verdict, filter-verdict, path-verdict}
+use Rattle.call_rules.specs.Added.{node-counts}
 use Rattle.call_rules.specs.Outcome.{Verdict, runs, unless-declined, as-handle, guard, Outcome, finishes}
 use Rattle.store.specs.RelationCalls.{relation-verdict, relation-read-verdict}
 use Rattle.store.specs.SetCalls.{set-verdict, set-read-verdict}
@@ -14,6 +16,7 @@ use Rattle.call_rules.specs.declared.Answer.{Answer}
 use Rattle.call_rules.specs.declared.Answer.the-variants.{Declined}
 use Rattle.call_rules.specs.declared.Check.the-variants.{Level}
 use Rattle.call_rules.specs.declared.Refusal.{Refusal}
+use Rattle.call_rules.specs.declared.added.NodeCounts.{NodeCounts}
 use Rattle.call_rules.specs.declared.Refusal.the-variants.{OutOfRange, UsedUp}
 use Rattle.policies.specs.Outcome.{refused, text-verdict}
 use Rattle.policies.specs.declared.PolicyAnswer.{PolicyAnswer}
@@ -25,6 +28,9 @@ pub record Plain : Type 0 where
 
 abbrev pub plain-store : ℕ → Store → Plain
 plain-store k S = record { width = k; lists = S }
+
+abbrev pub lengths : Plain → NodeCounts
+lengths P = node-counts (length (P .lists .rels)) (length (P .lists .sets))
 
 -- WHAT A CALL ASKS of the plain store: a verdict, the lists that its program runs on, and what takes the lists that this leaves
 pub record Asked (A : Type 0) : Type 0 where

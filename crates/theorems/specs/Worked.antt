@@ -1,10 +1,11 @@
--- Document 01, "Calls with their handles": the calls in its order, each with its answer; and 02, M-100.
+-- Document 01, "Calls with their handles": the calls in its order, each with its answer; and 02, M-100 and M-101.
 use mathlib.Core.Path.{_≡_}
 use mathlib.Core.List.{List, [], _∷_, map}
 use mathlib.Core.Bool.{Bool, true, false}
 use Prim.Native.Nat.{ℕ}
 use lib.ListN.{length}
 use Rattle.store_check.specs.Memory.{Memories}
+use Rattle.call_rules.specs.Added.{node-counts}
 use Rattle.call_rules.specs.declared.Answer.{Answer}
 use Rattle.call_rules.specs.declared.Answer.the-variants.{Handle, Truth, SetNode, RelationNode, Declined, Pair, Nothing}
 use Rattle.call_rules.specs.declared.Refusal.{Refusal}
@@ -20,8 +21,8 @@ use Rattle.store.specs.declared.path_reads.PathRead.the-variants.{HasImage, Has
 use Rattle.policies.specs.declared.Fault.{Fault}
 use Rattle.policies.specs.declared.Fault.the-variants.{NotPolicy, NotPredicate}
 use Rattle.policies.specs.declared.PolicyAnswer.the-variants as P
-use Rattle.policies.specs.declared.PolicyRefusal.the-variants.{At}
-use Rattle.theorems.specs.AllCalls.{AnyCall, call, policy, AnyAnswer, answered, read, all-calls}
+use Rattle.policies.specs.declared.PolicyRefusal.the-variants.{At, Store}
+use Rattle.theorems.specs.AllCalls.{AnyCall, call, policy, AnyAnswer, answered, read, AnyReply, all-calls}
 use Rattle.theorems.specs.Lists.{steps}
 
 -- ROWS of a table: a call and its answer, which may be a handle, yes or no, or a refusal
@@ -47,11 +48,22 @@ text-yields t h = (policy t, read (P.Handle h))
 abbrev pub text-refused : List ℕ → Fault → ℕ → Expected
 text-refused t f i = (policy t, read (P.Declined (At f i)))
 
+-- a row that also has the relation nodes and the set nodes that its call adds
+abbrev pub adding : Expected → ℕ → ℕ → AnyCall × AnyReply
+adding w r s = (w .0, (w .1, node-counts r s))
+
 -- WHAT IS CLAIMED of a table: its calls, made one after the other on a relation memory of a numbers and a set memory of b, whatever is in
--- them, have its answers
+-- them, have its replies, of which `see` is what its rows have
+abbrev pub RowsRight : {B : Type 0} → (AnyReply → B) → ℕ → ℕ → List (AnyCall × B) → Type 0
+RowsRight see a b t =
+    (M : Memories) → length (M .relations) ≡ a → length (M .sets) ≡ b → map see (steps all-calls (map (λ w. w .0) t) M .answers) ≡ map (λ w. w .1) t
+
+-- of rows with answers alone, and of rows with the nodes added
 abbrev pub TableRight : ℕ → ℕ → List Expected → Type 0
-TableRight a b t =
-    (M : Memories) → length (M .relations) ≡ a → length (M .sets) ≡ b → steps all-calls (map (λ w. w .0) t) M .answers ≡ map (λ w. w .1) t
+TableRight a b t = RowsRight (λ r. r .0) a b t
+
+abbrev pub CountsRight : ℕ → ℕ → List (AnyCall × AnyReply) → Type 0
+CountsRight a b t = RowsRight (λ r. r) a b t
 
 -- THE TABLES. 01: "One store, k = 1, in this order."
 abbrev pub one-field : List Expected
@@ -103,11 +115,15 @@ faults =
     ∷ text-refused (33 ∷ 120 ∷ 48 ∷ 58 ∷ 61 ∷ 49 ∷ []) NotPredicate 0
     ∷ []
 
+-- the text `x0=0+x0=1`
+abbrev pub either-value : List ℕ
+either-value = 120 ∷ 48 ∷ 61 ∷ 48 ∷ 43 ∷ 120 ∷ 48 ∷ 61 ∷ 49 ∷ []
+
 -- 01, the lister's lines: "For input lines `1`, `x0=0+x0=1`, `1`, `x0=5`": handle 3, handle 3, 7 at 3
 abbrev pub lister-lines : List Expected
 lister-lines =
     yields (new-store 1) 4
-    ∷ text-yields (120 ∷ 48 ∷ 61 ∷ 48 ∷ 43 ∷ 120 ∷ 48 ∷ 61 ∷ 49 ∷ []) 3
+    ∷ text-yields either-value 3
     ∷ text-yields (49 ∷ []) 3
     ∷ text-refused (120 ∷ 48 ∷ 61 ∷ 53 ∷ []) NotPolicy 3
     ∷ []
@@ -188,6 +204,29 @@ first-pairs =
     ∷ expects (path-read (FirstPath 1 0 1)) Nothing
     ∷ []
 
+-- 02, M-101: a text whose handle was held before, and which adds two nodes; again, and it adds none
+abbrev pub added : List (AnyCall × AnyReply)
+added =
+    adding (yields (new-store 1) 4) 3 1
+    ∷ adding (text-yields either-value 3) 2 0
+    ∷ adding (text-yields either-value 3) 0 0
+    -- `mk` that appends, and `mk` of a node that is held; a set's node is held without its sign
+    ∷ adding (yields (relation-call (R.Mk 0 1 1 0)) 7) 1 0
+    ∷ adding (yields (relation-call (R.Mk 0 1 1 0)) 7) 0 0
+    ∷ adding (yields (set-call (T.Mk 0 1)) 4) 0 1
+    ∷ adding (yields (set-call (T.Mk 1 0)) 5) 0 0
+    -- refused calls, and one that only reads
+    ∷ adding (refuses (set-call (T.Mk 9 9)) NotHeld) 0 0
+    ∷ adding (refuses (new-store 33) OutOfRange) 0 0
+    ∷ adding (decides (set-read (TR.IsZero 4)) false) 0 0
+    -- `new` over a used store
+    ∷ adding (yields (new-store 1) 4) 3 1
+    ∷ []
+
+-- the same text where there are four places for relations: 6, and nothing is added
+abbrev pub none-added : List (AnyCall × AnyReply)
+none-added = adding (yields (new-store 1) 4) 3 1 ∷ adding (policy either-value, read (P.Declined (Store UsedUp))) 0 0 ∷ []
+
 -- WHAT IS CLAIMED of them. Numbers that 01 does not give are the least that hold the nodes of the table
 pub record Worked : Type 0 where
   pub handles : TableRight 46 5 one-field
@@ -203,3 +242,5 @@ pub record Worked : Type 0 where
   pub listed : TableRight 22 3 lister-lines
   pub ordered : TableRight 146 21 two-fields
   pub first : TableRight 38 7 first-pairs
+  pub added-nodes : CountsRight 26 5 added
+  pub used-up : CountsRight 18 3 none-added

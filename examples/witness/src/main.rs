@@ -55,16 +55,16 @@ fn judge(k: u32, one: &str, other: &str) -> Result<Verdict, PolicyRefusal> {
     // strangers write the tables: four times the recommended working memory
     let work = &mut vec![0; 4 * WORK_LEN];
     new(relations, sets, work, k)?;
-    let one = policy(relations, sets, work, one.as_bytes())?;
-    let other = policy(relations, sets, work, other.as_bytes())?;
+    let one = policy(relations, sets, work, one.as_bytes())?.handle;
+    let other = policy(relations, sets, work, other.as_bytes())?.handle;
     if one == other {
         return Ok(Verdict::Equal);
     }
     let differing = match relation_xor(relations, sets, work, one, other) {
         Err(Refusal::UsedUp) => return Ok(Verdict::NoRoom),
-        answer => answer?,
+        answer => answer?.handle,
     };
-    let all = set_one(relations, sets, work)?;
+    let all = set_one(relations, sets, work)?.handle;
     let pair = relation_first_path(relations, sets, work, all, differing, all)?;
     let (input, output) = pair.expect("two handles of one store differ somewhere");
     let by_one = relation_relates(relations, sets, work, one, input, output)?;

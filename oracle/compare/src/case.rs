@@ -3,7 +3,7 @@
 use crate::lent::{Guard, Lent};
 use crate::library::{self, Asked, Memories};
 use crate::memory::encode;
-use oracle::answer::Answer;
+use crate::said::Said;
 use oracle::random::Random;
 use oracle::store::Store;
 use std::fmt;
@@ -41,12 +41,12 @@ impl Case {
         encode(store, self.relations.numbers_mut(), self.sets.numbers_mut());
     }
 
-    /// Makes a call. The answer must be this one, the memories those of `after`, or stay where there
-    /// is none, and the working memory all zeros.
+    /// Makes a call. The answer and the nodes added must be those of the oracle, the memories those of `after`,
+    /// or stay where there is none, and the working memory all zeros.
     pub fn make(
         &mut self,
         asked: Asked,
-        answer: &Answer,
+        said: &Said,
         after: Option<&Store>,
         random: &mut Random,
     ) -> Result<(), String> {
@@ -65,8 +65,19 @@ impl Case {
                 work: work.numbers_mut(),
             },
         );
-        if given != *answer {
-            return Err(format!("answer: {given}, the oracle's: {answer}"));
+        let Said { answer, added } = said;
+        if given.answer != *answer {
+            return Err(format!("answer: {}, the oracle's: {answer}", given.answer));
+        }
+        // A call that only reads has no numbers, and adds nothing in the oracle.
+        let counts = given.added.unwrap_or((0, 0));
+        if counts != *added {
+            return Err(format!(
+                "answer of both: {answer}; added: {counts:?}, the oracle's: {added:?}"
+            ));
+        }
+        if given.appended.is_some_and(|appended| appended != said.grew()) {
+            return Err(format!("answer of both: {answer}; whether it appended is the other way"));
         }
         let parts = [
             ("relation memory", &self.relations, &expected.relations),

@@ -4,6 +4,7 @@ use crate::case::{Case, Difference};
 use crate::lent::{Guard, WorkLengths};
 use crate::library::{self, Asked};
 use crate::memory::{decode, headed, lengths, places_in};
+use crate::said::Said;
 use oracle::answer::{Answer, Refusal};
 use oracle::call::Call;
 use oracle::draw::{texts, Draw, Part};
@@ -23,6 +24,16 @@ pub struct Counts {
     /// Of the memories, those that are a store all the same.
     stores: u64,
     used_up: u64,
+    /// The calls that added nodes.
+    grew: u64,
+}
+
+impl Counts {
+    fn enter(&mut self, said: &Said) {
+        self.calls += 1;
+        self.used_up += u64::from(said.answer == Answer::Refused(Refusal::UsedUp));
+        self.grew += u64::from(said.grew());
+    }
 }
 
 /// Damages this many stores, each in many ways, in memories so guarded.
@@ -42,10 +53,10 @@ pub fn compare(seed: u64, count: usize, part: Part, guard: Guard) -> Result<Stri
             )?;
         }
     }
-    let Counts { calls, memories, stores, used_up } = counts;
+    let Counts { calls, memories, stores, used_up, grew } = counts;
     Ok(format!(
         "AGREES seed {seed}: {calls} calls on {memories} damaged memories, {stores} of them stores, \
-         {used_up} refused with 6"
+         {used_up} refused with 6, {grew} that added nodes"
     ))
 }
 
@@ -143,15 +154,14 @@ pub fn every_call(
         case.work = work.next(fields.unwrap_or(0), library::on_relations(operation));
         let mut store = decode(case.relations.numbers(), case.sets.numbers());
         let arguments = arguments(operation, store.as_ref(), random);
-        let answer = match &mut store {
-            Some(store) => store.call(operation, &arguments),
-            None => Answer::Refused(Refusal::NotAStore),
+        let said = match &mut store {
+            Some(store) => Said::of(store, |store| store.call(operation, &arguments)),
+            None => Said::refused(Refusal::NotAStore),
         };
-        let after = if answer.refusal().is_some() { None } else { store.as_ref() };
-        counts.calls += 1;
-        counts.used_up += u64::from(answer == Answer::Refused(Refusal::UsedUp));
+        counts.enter(&said);
         let asked = Asked::Numbers(operation.name, &arguments);
-        let made = case.make(asked, &answer, after, random);
+        let after = store.as_ref().and_then(|store| said.after(store));
+        let made = case.make(asked, &said, after, random);
         made.map_err(|what| (asked.to_string(), what))?;
     }
     if part == Part::Policies {
@@ -171,15 +181,14 @@ fn policy(
     let fields = store.as_ref().map_or(2, |store| store.fields());
     case.work = work.next(fields, true);
     let text = texts::text(fields, random);
-    let answer = match &mut store {
-        Some(store) => store.policy(&text),
-        None => Answer::Refused(Refusal::NotAStore),
+    let said = match &mut store {
+        Some(store) => Said::of(store, |store| store.policy(&text)),
+        None => Said::refused(Refusal::NotAStore),
     };
-    let after = if answer.refusal().is_some() { None } else { store.as_ref() };
-    counts.calls += 1;
-    counts.used_up += u64::from(answer == Answer::Refused(Refusal::UsedUp));
+    counts.enter(&said);
     let asked = Asked::Policy(&text);
-    let made = case.make(asked, &answer, after, random);
+    let after = store.as_ref().and_then(|store| said.after(store));
+    let made = case.make(asked, &said, after, random);
     made.map_err(|what| (asked.to_string(), what))
 }
 
@@ -193,15 +202,14 @@ fn begin(mut case: Case, counts: &mut Counts, random: &mut Random) -> Result<(),
     } else {
         Store::new(fields, places.0 as u32, places.1 as u32)
     };
-    let (answer, after) = match opened {
-        Ok(mut store) => (store.ask("top", &[]), Some(store)),
-        Err(refusal) => (Answer::Refused(refusal), None),
+    let (said, after) = match opened {
+        Ok(mut store) => (Said::opened(&mut store), Some(store)),
+        Err(refusal) => (Said::refused(refusal), None),
     };
-    counts.calls += 1;
-    counts.used_up += u64::from(answer == Answer::Refused(Refusal::UsedUp));
+    counts.enter(&said);
     let numbers = [fields];
     let asked = Asked::Numbers("new", &numbers);
-    let made = case.make(asked, &answer, after.as_ref(), random);
+    let made = case.make(asked, &said, after.as_ref(), random);
     made.map_err(|what| (asked.to_string(), what))
 }
 

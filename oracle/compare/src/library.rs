@@ -3,6 +3,7 @@
 use oracle::answer::{Answer, Fault, Refusal};
 use oracle::operations::{self, Operation};
 use packet_store as library;
+use packet_store::raw::{self, Reply};
 use std::fmt;
 
 /// The three memories of a call.
@@ -32,123 +33,115 @@ impl fmt::Display for Asked<'_> {
     }
 }
 
-type Run = fn(Memories, &[u32]) -> Result<Answer, library::Refusal>;
+/// What a call gives.
+pub struct Given {
+    pub answer: Answer,
+    /// The relation nodes and set nodes that a call which may add some says that it added, by the C struct, refused or not.
+    pub added: Option<(u32, u32)>,
+    /// Whether an accepted `mk` says that it appended its node.
+    pub appended: Option<bool>,
+}
+
+impl Given {
+    fn read(given: Result<Answer, library::Refusal>) -> Given {
+        let answer = given.unwrap_or_else(|refusal| Answer::Refused(oracles(refusal)));
+        Given { answer, added: None, appended: None }
+    }
+
+    fn made(reply: Reply) -> Given {
+        let read = Given::read(reply.made().map(|made| Answer::Handle(made.handle)));
+        Given { added: Some((reply.relations, reply.sets)), ..read }
+    }
+
+    fn node(reply: Reply) -> Given {
+        Given { appended: reply.node().ok().map(|node| node.appended), ..Given::made(reply) }
+    }
+}
+
+/// Calls the C function of this name.
+macro_rules! ask {
+    ($memories:expr, $name:ident $(, $x:expr)*) => {{
+        let Memories { relations, sets, work } = $memories;
+        let (r, s, w) = (relations.as_mut_ptr(), sets.as_mut_ptr(), work.as_mut_ptr());
+        // SAFETY: the pointers are those of slices of these lengths, none of which overlaps another.
+        unsafe { raw::$name(r, relations.len(), s, sets.len(), w, work.len() $(, $x)*) }
+    }};
+}
+
+/// A call that may add nodes, with the places of its arguments in the list.
+macro_rules! adds {
+    ($name:ident($($x:literal)*)) => {
+        |m, _x| Given::made(ask!(m, $name $(, _x[$x])*))
+    };
+}
+
+/// A `mk`.
+macro_rules! appends {
+    ($name:ident($($x:literal)*)) => {
+        |m, x| Given::node(ask!(m, $name $(, x[$x])*))
+    };
+}
+
+/// A call that only reads, and the oracle's answer for what it gives.
+macro_rules! reads {
+    ($name:ident($($x:literal)*), $answer:expr) => {
+        |m, x| Given::read(library::$name(m.relations, m.sets, m.work $(, x[$x])*).map($answer))
+    };
+}
+
+type Run = fn(Memories, &[u32]) -> Given;
 
 /// The call that begins a store, on the number of fields.
-pub const NEW: Run = |m, x| library::new(m.relations, m.sets, m.work, x[0]).map(Answer::Handle);
+pub const NEW: Run = adds!(new(0));
 
 /// All other calls.
 pub static CALLS: [(&str, Run); 42] = [
-    ("set.mk", |m, x| library::set_mk(m.relations, m.sets, m.work, x[0], x[1]).map(Answer::Handle)),
-    ("set.get", |m, x| {
-        let children = library::set_get(m.relations, m.sets, m.work, x[0])?;
-        Ok(Answer::Children(children.to_vec()))
-    }),
-    ("set.union", |m, x| {
-        library::set_union(m.relations, m.sets, m.work, x[0], x[1]).map(Answer::Handle)
-    }),
-    ("set.intersect", |m, x| {
-        library::set_intersect(m.relations, m.sets, m.work, x[0], x[1]).map(Answer::Handle)
-    }),
-    ("set.xor", |m, x| {
-        library::set_xor(m.relations, m.sets, m.work, x[0], x[1]).map(Answer::Handle)
-    }),
-    ("set.difference", |m, x| {
-        library::set_difference(m.relations, m.sets, m.work, x[0], x[1]).map(Answer::Handle)
-    }),
-    ("set.complement", |m, x| {
-        library::set_complement(m.relations, m.sets, m.work, x[0]).map(Answer::Handle)
-    }),
-    ("set.is_zero", |m, x| {
-        library::set_is_zero(m.relations, m.sets, m.work, x[0]).map(Answer::YesNo)
-    }),
-    ("set.test", |m, x| {
-        library::set_test(m.relations, m.sets, m.work, x[0], x[1]).map(Answer::Handle)
-    }),
-    ("set.zero", |m, _| library::set_zero(m.relations, m.sets, m.work).map(Answer::Handle)),
-    ("set.one", |m, _| library::set_one(m.relations, m.sets, m.work).map(Answer::Handle)),
-    ("intersects", |m, x| {
-        library::set_intersects(m.relations, m.sets, m.work, x[0], x[1]).map(Answer::YesNo)
-    }),
-    ("ifelse", |m, x| {
-        library::set_ifelse(m.relations, m.sets, m.work, x[0], x[1], x[2]).map(Answer::Handle)
-    }),
-    ("rel.mk", |m, x| {
-        library::relation_mk(m.relations, m.sets, m.work, x[0], x[1], x[2], x[3])
-            .map(Answer::Handle)
-    }),
-    ("rel.get", |m, x| {
-        let children = library::relation_get(m.relations, m.sets, m.work, x[0])?;
-        Ok(Answer::Children(children.to_vec()))
-    }),
-    ("rel.union", |m, x| {
-        library::relation_union(m.relations, m.sets, m.work, x[0], x[1]).map(Answer::Handle)
-    }),
-    ("rel.intersect", |m, x| {
-        library::relation_intersect(m.relations, m.sets, m.work, x[0], x[1]).map(Answer::Handle)
-    }),
-    ("rel.xor", |m, x| {
-        library::relation_xor(m.relations, m.sets, m.work, x[0], x[1]).map(Answer::Handle)
-    }),
-    ("rel.difference", |m, x| {
-        library::relation_difference(m.relations, m.sets, m.work, x[0], x[1]).map(Answer::Handle)
-    }),
-    ("rel.complement", |m, x| {
-        library::relation_complement(m.relations, m.sets, m.work, x[0]).map(Answer::Handle)
-    }),
-    ("rel.is_zero", |m, x| {
-        library::relation_is_zero(m.relations, m.sets, m.work, x[0]).map(Answer::YesNo)
-    }),
-    ("rel.test", |m, x| {
-        library::relation_test(m.relations, m.sets, m.work, x[0], x[1]).map(Answer::Handle)
-    }),
-    ("rel.zero", |m, _| library::relation_zero(m.relations, m.sets, m.work).map(Answer::Handle)),
-    ("rel.one", |m, _| library::relation_one(m.relations, m.sets, m.work).map(Answer::Handle)),
-    ("top", |m, _| library::relation_top(m.relations, m.sets, m.work).map(Answer::Handle)),
-    ("sequence", |m, x| {
-        library::relation_sequence(m.relations, m.sets, m.work, x[0], x[1]).map(Answer::Handle)
-    }),
-    ("star", |m, x| library::relation_star(m.relations, m.sets, m.work, x[0]).map(Answer::Handle)),
-    ("flip", |m, x| library::relation_flip(m.relations, m.sets, m.work, x[0]).map(Answer::Handle)),
-    ("assign", |m, x| {
-        library::relation_assign(m.relations, m.sets, m.work, x[0], x[1]).map(Answer::Handle)
-    }),
-    ("naive_forward", |m, x| {
-        library::relation_naive_forward(m.relations, m.sets, m.work, x[0]).map(Answer::Handle)
-    }),
-    ("backward", |m, x| {
-        library::relation_backward(m.relations, m.sets, m.work, x[0]).map(Answer::Handle)
-    }),
-    ("relates", |m, x| {
-        library::relation_relates(m.relations, m.sets, m.work, x[0], x[1], x[2]).map(Answer::YesNo)
-    }),
-    ("fwd", |m, x| library::relation_fwd(m.relations, m.sets, m.work, x[0]).map(Answer::Handle)),
-    ("bwd", |m, x| library::relation_bwd(m.relations, m.sets, m.work, x[0]).map(Answer::Handle)),
-    ("ifwd", |m, x| library::relation_ifwd(m.relations, m.sets, m.work, x[0]).map(Answer::Handle)),
-    ("ibwd", |m, x| library::relation_ibwd(m.relations, m.sets, m.work, x[0]).map(Answer::Handle)),
-    ("push", |m, x| {
-        library::relation_push(m.relations, m.sets, m.work, x[0], x[1]).map(Answer::Handle)
-    }),
-    ("pull", |m, x| {
-        library::relation_pull(m.relations, m.sets, m.work, x[0], x[1]).map(Answer::Handle)
-    }),
-    ("diagonal", |m, x| {
-        library::relation_diagonal(m.relations, m.sets, m.work, x[0]).map(Answer::Handle)
-    }),
-    ("has_image", |m, x| {
-        library::relation_has_image(m.relations, m.sets, m.work, x[0], x[1]).map(Answer::YesNo)
-    }),
-    ("has_path", |m, x| {
-        library::relation_has_path(m.relations, m.sets, m.work, x[0], x[1], x[2]).map(Answer::YesNo)
-    }),
-    ("first_path", |m, x| {
-        library::relation_first_path(m.relations, m.sets, m.work, x[0], x[1], x[2])
-            .map(Answer::Pair)
-    }),
+    ("set.mk", appends!(set_mk(0 1))),
+    ("set.get", reads!(set_get(0), |x| Answer::Children(x.to_vec()))),
+    ("set.union", adds!(set_union(0 1))),
+    ("set.intersect", adds!(set_intersect(0 1))),
+    ("set.xor", adds!(set_xor(0 1))),
+    ("set.difference", adds!(set_difference(0 1))),
+    ("set.complement", reads!(set_complement(0), Answer::Handle)),
+    ("set.is_zero", reads!(set_is_zero(0), Answer::YesNo)),
+    ("set.test", adds!(set_test(0 1))),
+    ("set.zero", adds!(set_zero())),
+    ("set.one", adds!(set_one())),
+    ("intersects", reads!(set_intersects(0 1), Answer::YesNo)),
+    ("ifelse", adds!(set_ifelse(0 1 2))),
+    ("rel.mk", appends!(relation_mk(0 1 2 3))),
+    ("rel.get", reads!(relation_get(0), |x| Answer::Children(x.to_vec()))),
+    ("rel.union", adds!(relation_union(0 1))),
+    ("rel.intersect", adds!(relation_intersect(0 1))),
+    ("rel.xor", adds!(relation_xor(0 1))),
+    ("rel.difference", adds!(relation_difference(0 1))),
+    ("rel.complement", adds!(relation_complement(0))),
+    ("rel.is_zero", reads!(relation_is_zero(0), Answer::YesNo)),
+    ("rel.test", adds!(relation_test(0 1))),
+    ("rel.zero", adds!(relation_zero())),
+    ("rel.one", adds!(relation_one())),
+    ("top", adds!(relation_top())),
+    ("sequence", adds!(relation_sequence(0 1))),
+    ("star", adds!(relation_star(0))),
+    ("flip", adds!(relation_flip(0))),
+    ("assign", adds!(relation_assign(0 1))),
+    ("naive_forward", adds!(relation_naive_forward(0))),
+    ("backward", adds!(relation_backward(0))),
+    ("relates", reads!(relation_relates(0 1 2), Answer::YesNo)),
+    ("fwd", adds!(relation_fwd(0))),
+    ("bwd", adds!(relation_bwd(0))),
+    ("ifwd", adds!(relation_ifwd(0))),
+    ("ibwd", adds!(relation_ibwd(0))),
+    ("push", adds!(relation_push(0 1))),
+    ("pull", adds!(relation_pull(0 1))),
+    ("diagonal", adds!(relation_diagonal(0))),
+    ("has_image", reads!(relation_has_image(0 1), Answer::YesNo)),
+    ("has_path", reads!(relation_has_path(0 1 2), Answer::YesNo)),
+    ("first_path", reads!(relation_first_path(0 1 2), Answer::Pair)),
 ];
 
 /// Makes a call of the library.
-pub fn make(asked: Asked, memories: Memories) -> Answer {
+pub fn make(asked: Asked, memories: Memories) -> Given {
     let (name, numbers) = match asked {
         Asked::Policy(text) => return policy(text, memories),
         Asked::Numbers(name, numbers) => (name, numbers),
@@ -160,14 +153,15 @@ pub fn make(asked: Asked, memories: Memories) -> Answer {
             found.unwrap_or_else(|| panic!("the library has no call {name}")).1
         }
     };
-    run(memories, numbers).unwrap_or_else(|refusal| Answer::Refused(oracles(refusal)))
+    run(memories, numbers)
 }
 
 /// The text is lent as a heap block of its own, whose ends valgrind watches.
-fn policy(text: &[u8], memories: Memories) -> Answer {
+fn policy(text: &[u8], memories: Memories) -> Given {
     let text = text.to_vec().into_boxed_slice();
-    match library::policy(memories.relations, memories.sets, memories.work, &text) {
-        Ok(handle) => Answer::Handle(handle),
+    let reply = ask!(memories, policy, text.as_ptr(), text.len());
+    let answer = match reply.policy() {
+        Ok(made) => Answer::Handle(made.handle),
         Err(library::PolicyRefusal::Store(refusal)) => Answer::Refused(oracles(refusal)),
         Err(library::PolicyRefusal::At(fault, offset)) => {
             let fault = match fault {
@@ -178,7 +172,8 @@ fn policy(text: &[u8], memories: Memories) -> Answer {
             };
             Answer::RefusedAt(fault, offset as usize)
         }
-    }
+    };
+    Given { answer, added: Some((reply.relations, reply.sets)), appended: None }
 }
 
 /// Whether an operation takes or makes relations.

@@ -5,6 +5,7 @@ use crate::lent::{Guard, WorkLengths};
 use crate::library::{self, Asked};
 use crate::meaning;
 use crate::memory::lengths;
+use crate::said::Said;
 use oracle::answer::{Answer, Refusal};
 use oracle::call::Call;
 use oracle::draw::{Draw, Part};
@@ -19,6 +20,8 @@ pub struct Counts {
     calls: u64,
     pub stores: u64,
     refused: [u64; 11],
+    /// The calls that added nodes.
+    grew: u64,
     /// The accepted calls of each name.
     accepted: BTreeMap<&'static str, u64>,
     /// The calls on stores of each number of fields.
@@ -50,11 +53,10 @@ pub fn compare(seed: u64, count: usize, part: Part) -> Result<String, Difference
                 open(*fields, places, &mut store, &mut case, &mut counts, &mut noise)
             }
             Call::Operation(operation, arguments) => {
-                let answer = store.call(operation, arguments);
-                counts.enter(operation.name, &answer, &store);
-                let after = answer.refusal().is_none().then_some(&store);
+                let said = Said::of(&mut store, |store| store.call(operation, arguments));
+                counts.enter(operation.name, &said, &store);
                 let asked = Asked::Numbers(operation.name, arguments);
-                case.make(asked, &answer, after, &mut noise)
+                case.make(asked, &said, said.after(&store), &mut noise)
             }
             Call::Policy(text) => policy(text, &mut store, &mut case, &mut counts, &mut noise),
         };
@@ -84,12 +86,11 @@ pub fn policy(
     counts: &mut Counts,
     noise: &mut Random,
 ) -> Result<(), String> {
-    let answer = store.policy(text);
-    counts.enter("policy", &answer, store);
+    let said = Said::of(store, |store| store.policy(text));
+    counts.enter("policy", &said, store);
     counts.policies += 1;
-    let after = answer.refusal().is_none().then_some(&*store);
-    case.make(Asked::Policy(text), &answer, after, noise)?;
-    let Answer::Handle(handle) = answer else { return Ok(()) };
+    case.make(Asked::Policy(text), &said, said.after(store), noise)?;
+    let Answer::Handle(handle) = said.answer else { return Ok(()) };
     if store.fields() > meaning::MOST_FIELDS {
         return Ok(());
     }
@@ -113,22 +114,22 @@ fn open(
     fresh.work = case.work;
     match Store::new(fields, places.0, places.1) {
         Ok(mut opened) => {
-            let top = opened.ask("top", &[]);
+            let said = Said::opened(&mut opened);
             counts.stores += 1;
-            counts.enter("new", &top, &opened);
-            fresh.make(Asked::Numbers("new", &[fields]), &top, Some(&opened), noise)?;
+            counts.enter("new", &said, &opened);
+            fresh.make(Asked::Numbers("new", &[fields]), &said, Some(&opened), noise)?;
             *store = opened;
             *case = fresh;
             Ok(())
         }
         Err(refusal) => {
-            let answer = Answer::Refused(refusal);
-            counts.enter("new", &answer, store);
+            let said = Said::refused(refusal);
+            counts.enter("new", &said, store);
             let asked = Asked::Numbers("new", &[fields]);
-            fresh.make(asked, &answer, None, noise)?;
+            fresh.make(asked, &said, None, noise)?;
             // Too many fields are refused on the memories in use too.
             if refusal == Refusal::OutOfRange {
-                case.make(asked, &answer, None, noise)?;
+                case.make(asked, &said, None, noise)?;
             }
             Ok(())
         }
@@ -137,9 +138,10 @@ fn open(
 
 impl Counts {
     /// Enters a call that the oracle answered, and the store after it.
-    fn enter(&mut self, name: &'static str, answer: &Answer, store: &Store) {
+    fn enter(&mut self, name: &'static str, said: &Said, store: &Store) {
         self.calls += 1;
-        match answer.refusal() {
+        self.grew += u64::from(said.grew());
+        match said.answer.refusal() {
             Some(number) => self.refused[number] += 1,
             None => *self.accepted.entry(name).or_default() += 1,
         }
@@ -157,11 +159,12 @@ impl Counts {
         let (name, times) = least.expect("a list begins with an accepted new");
         format!(
             "AGREES seed {seed}: {} calls of {} names, {name} accepted {times} times and the others no less, {} stores, \
-             refused {}, calls by fields {}, at most {} and {} nodes; {} policies, the pairs of {} compared",
+             refused {}, {} that added nodes, calls by fields {}, at most {} and {} nodes; {} policies, the pairs of {} compared",
             self.calls,
             self.accepted.len(),
             self.stores,
             refused.join(", "),
+            self.grew,
             fields.join(", "),
             self.most_nodes.0,
             self.most_nodes.1,

@@ -11,6 +11,7 @@ mod memory;
 mod orders;
 mod pairs;
 mod rules;
+mod said;
 mod texts;
 
 use case::Difference;

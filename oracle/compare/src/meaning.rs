@@ -26,7 +26,8 @@ pub fn compare(text: &[u8], handle: u32, fields: u32, case: &mut Case) -> Result
                 sets: case.sets.numbers_mut(),
                 work: &mut [],
             };
-            let told = library::make(Asked::Numbers("relates", &[handle, input, output]), memories);
+            let numbers = [handle, input, output];
+            let told = library::make(Asked::Numbers("relates", &numbers), memories).answer;
             if told != Answer::YesNo(meant) {
                 return Err(format!("relates {handle} {input} {output}: {told}, not {meant}"));
             }

@@ -6,6 +6,7 @@ use crate::damage;
 use crate::lent::{Guard, WorkLengths, WORK};
 use crate::library::Asked;
 use crate::memory::{decode, lengths};
+use crate::said::Said;
 use oracle::answer::Answer;
 use oracle::draw::Part;
 use oracle::random::Random;
@@ -109,10 +110,9 @@ fn every_field(case: &Case, random: &mut Random) -> Result<u64, (String, String)
                 let mut case = Case { work, ..case.clone() };
                 let mut store = held(&case);
                 let numbers = [number / 2, number % 2];
-                let answer = store.ask(name, &numbers);
-                let after = answer.refusal().is_none().then_some(&store);
+                let said = Said::of(&mut store, |store| store.ask(name, &numbers));
                 let asked = Asked::Numbers(name, &numbers);
-                let made = case.make(asked, &answer, after, random);
+                let made = case.make(asked, &said, said.after(&store), random);
                 made.map_err(|what| (asked.to_string(), what))?;
                 calls += 1;
             }

@@ -6,6 +6,7 @@ use crate::lent::Guard;
 use crate::library::{self, Asked, Memories};
 use crate::memory::lengths;
 use crate::rules::{self, Rules};
+use crate::said::Said;
 use oracle::answer::Answer;
 use oracle::check::pairs::each_relation;
 use oracle::draw::{Draw, Part};
@@ -65,7 +66,7 @@ pub fn all(level: u32, work: usize) -> Result<String, Difference> {
                 work: &mut lent,
             };
             let call = Asked::Numbers("first_path", &triple.handles);
-            let given = library::make(call, memories);
+            let given = library::make(call, memories).answer;
             let meant = Answer::Pair(triple.pair);
             let kept = case.relations == before.relations && case.sets == before.sets;
             if given != meant || !kept || lent.iter().any(|&number| number != 0) {
@@ -154,7 +155,7 @@ fn one(
     let [p, a, q] = handles;
     let level = store.relation_level(a).expect("a held relation");
     let mut beside = Beside::new(store, level);
-    let answer = beside.store.ask("first_path", &handles);
+    let said = Said::of(&mut beside.store, |store| store.ask("first_path", &handles));
     counts.triples += 1;
     *counts.fields.entry(fields).or_default() += 1;
     counts.below += u64::from(level < fields);
@@ -165,10 +166,12 @@ fn one(
     for &work in WORK.iter().chain(little) {
         case.work = work;
         counts.calls += 1;
-        case.make(Asked::Numbers("first_path", &handles), &answer, None, random)
+        case.make(Asked::Numbers("first_path", &handles), &said, None, random)
             .map_err(|what| format!("working memory {work}: {what}"))?;
     }
-    let Answer::Pair(pair) = answer else { return Err(format!("the oracle answers {answer}")) };
+    let Answer::Pair(pair) = said.answer else {
+        return Err(format!("the oracle answers {}", said.answer));
+    };
     let Some((x, y)) = pair else {
         counts.none += 1;
         return beside.expect(false, "has_path", &handles);

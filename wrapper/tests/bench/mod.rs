@@ -1,9 +1,28 @@
-//! Lent memory for the tests: a refusal must leave it as it was.
+//! Lent memory for the tests: a refusal must leave it as it was, and an accepted call adds the nodes that it says.
 
 // No test file uses all of it.
 #![allow(dead_code)]
 
 use packet_store::*;
+
+/// What a call that may add nodes gives, in one form.
+pub trait Gives {
+    fn made(self) -> Made;
+}
+
+impl Gives for Made {
+    fn made(self) -> Made {
+        self
+    }
+}
+
+impl Gives for Node {
+    fn made(self) -> Made {
+        let Node { handle, appended, added } = self;
+        assert_eq!(appended, added.relations + added.sets == 1);
+        Made { handle, added }
+    }
+}
 
 /// Two memories with this many places of each kind, and some working memory.
 pub struct Bench {
@@ -39,43 +58,50 @@ impl Bench {
         Bench { relations: self.relations.clone(), sets: self.sets.clone(), work: vec![7; 9] }
     }
 
-    /// Makes a call that may write both memories.
+    /// The nodes held.
+    pub fn held(&self) -> Added {
+        Added { relations: self.relations[RELATION_COUNT], sets: self.sets[SET_COUNT] }
+    }
+
+    /// Begins a store of k fields: the handle.
     pub fn open(&mut self, k: u32) -> Result<u32, Refusal> {
-        let before = (self.relations.clone(), self.sets.clone());
-        let answer = new(&mut self.relations, &mut self.sets, &mut self.work, k);
-        if answer.is_err() {
-            assert_eq!(before, (self.relations.clone(), self.sets.clone()));
-        }
-        self.spoil_work();
-        answer
+        self.add(|b| new(&mut b.relations, &mut b.sets, &mut b.work, k), |_, after| after)
     }
 
-    /// Makes a call that may add sets.
-    pub fn add_set(
+    /// Makes a call that may add sets: the handle.
+    pub fn add_set<G: Gives>(
         &mut self,
-        call: impl FnOnce(&[u32], &mut [u32], &mut [u32]) -> Result<u32, Refusal>,
+        call: impl FnOnce(&[u32], &mut [u32], &mut [u32]) -> Result<G, Refusal>,
     ) -> Result<u32, Refusal> {
-        let before = self.sets.clone();
-        let answer = call(&self.relations, &mut self.sets, &mut self.work);
-        if answer.is_err() {
-            assert_eq!(before, self.sets);
-        }
-        self.spoil_work();
-        answer
+        self.add(|b| call(&b.relations, &mut b.sets, &mut b.work), grown)
     }
 
-    /// Makes a call that may add relations.
-    pub fn add_relation<E>(
+    /// Makes a call that may add relations: the handle.
+    pub fn add_relation<G: Gives, E>(
         &mut self,
-        call: impl FnOnce(&mut [u32], &[u32], &mut [u32]) -> Result<u32, E>,
+        call: impl FnOnce(&mut [u32], &[u32], &mut [u32]) -> Result<G, E>,
     ) -> Result<u32, E> {
-        let before = self.relations.clone();
-        let answer = call(&mut self.relations, &self.sets, &mut self.work);
-        if answer.is_err() {
-            assert_eq!(before, self.relations);
+        self.add(|b| call(&mut b.relations, &b.sets, &mut b.work), grown)
+    }
+
+    /// Makes a call; what it says it added must be this of the nodes held before and after.
+    fn add<G: Gives, E>(
+        &mut self,
+        call: impl FnOnce(&mut Bench) -> Result<G, E>,
+        added: fn(Added, Added) -> Added,
+    ) -> Result<u32, E> {
+        let before = (self.relations.clone(), self.sets.clone());
+        let answer = call(self).map(Gives::made);
+        match &answer {
+            Ok(made) => {
+                let counts =
+                    Added { relations: before.0[RELATION_COUNT], sets: before.1[SET_COUNT] };
+                assert_eq!(made.added, added(counts, self.held()));
+            }
+            Err(_) => assert_eq!(before, (self.relations.clone(), self.sets.clone())),
         }
         self.spoil_work();
-        answer
+        answer.map(|made| made.handle)
     }
 
     /// Judges a policy.
@@ -98,6 +124,11 @@ impl Bench {
         assert!(self.work.iter().all(|&x| x == 0));
         self.work.fill(7);
     }
+}
+
+/// The nodes held after a call less those before it.
+fn grown(before: Added, after: Added) -> Added {
+    Added { relations: after.relations - before.relations, sets: after.sets - before.sets }
 }
 
 /// Ways to damage a store of 2 fields with 6 and 4 places, right after `new`: its set nodes are (0, 0) and (2, 2).

@@ -1,11 +1,13 @@
--- `new` has its outcome for any numbers in the memories, and leaves the working memory zero.
+-- `new` has its outcome for any numbers in the memories, with the nodes that the new store holds, and leaves the working memory zero.
 use mathlib.Core.Path.{refl, sym, subst}
 use Prim.Native.Nat.{_*_}
 use lib.ListN.{length}
 use borrow.Author.Needs.{needs}
 use Rattle.model.specs.Store.{set, rel}
 use Rattle.store_check.specs.Memory.{memories}
+use Rattle.call_rules.specs.Added.{held-in}
 use Rattle.call_rules.specs.declared.Check.the-variants.{Level}
+use Rattle.call_rules.proofs.Counting.{new-declined, new-given}
 use Rattle.new_store.specs.Creating.{NewChecked, NewFits}
 use Rattle.new_store.proofs.Creating.{new-accepted}
 use Rattle.new_store.proofs.new.Statement.{statement}
@@ -21,8 +23,8 @@ returns c =
     let after-check = c .before .before .before in
     let after-clear = after-check .before .before .before in
     let entry = after-clear .before .before .before .before .before in
-    let a = entry .args in (
-      subst (NewChecked _ _ _) (c .before .check2 .given .1) (after-check .check .ensures) (memories (a .relations .now) (a .sets .now)) refl refl,
+    let M = memories (entry .args .relations .now) (entry .args .sets .now) in (
+      new-declined held-in _ (subst (NewChecked _ _ _) (c .before .check2 .given .1) (after-check .check .ensures) M refl refl),
       after-clear .clear .ensures,
     )
 
@@ -39,14 +41,15 @@ write-relations-requires c κs =
 
 returns-2 : tie.Need-returns-2
 returns-2 c =
-    let after-write-sets = c .before .before .before .before .before .before in
+    let after-write-relations = c .before .before .before .before .before in
+    let after-write-sets = after-write-relations .before .before .before .before in
     let after-check3 = after-write-sets .before .before .before in
     let after-clear = after-check3 .before .before .before .before .before in
     let entry = after-clear .before .before .before .before .before in
     let a = entry .args in (
-      new-accepted (a .k) _ (memories (a .relations .now) (a .sets .now)) _ _ _ (checks after-check3) (c .before .before .write-relations .ensures .0)
-          (after-write-sets .write-sets .ensures)
-          (c .before .before .write-relations .ensures .1),
+      new-given held-in _ _ (new-accepted (a .k) _ (memories (a .relations .now) (a .sets .now)) _ _ _ (checks after-check3)
+          (after-write-relations .write-relations .ensures .0) (after-write-sets .write-sets .ensures) (after-write-relations .write-relations .ensures .1))
+          (c .held .ensures),
       after-clear .clear .ensures,
     )
 
@@ -60,6 +63,7 @@ new-spec =
     (λ c. search needs)
     write-sets-requires
     write-relations-requires
+    (λ c κs. search needs)
     (λ c. search needs)
     returns
     (λ c. search needs)

@@ -1,4 +1,4 @@
--- One call, its answer packed.
+-- `new`, its reply packed.
 use borrow.Author.Needs.{needs}
 use Rattle.store.specs.Calls.{step}
 use Rattle.packing.proofs.Answering.{answers}
@@ -8,8 +8,8 @@ use Rattle.packet_store.proofs.creation.packet_store_new.Tie as tie
 new-requires : tie.Need-new-requires
 new-requires c κs = search needs
 
-pack-requires : tie.Need-pack-requires
-pack-requires c κs = search needs
+pack-reply-requires : tie.Need-pack-reply-requires
+pack-reply-requires c κs = search needs
 
 same-length : tie.Need-same-length
 same-length c = search needs
@@ -22,8 +22,8 @@ same-length-3 c = search needs
 
 returns : tie.Need-returns
 unfolding step
-returns c = answers _ _ _ _ _ _ _ (c .before .before .before .before .before .before .before .new .ensures) (c .pack .ensures)
+returns c = answers _ _ _ _ _ _ _ (c .before .before .before .before .before .before .before .new .ensures) (c .pack-reply .ensures)
 
 pub packet-store-new-spec : {M : Type 1} → statement M
 packet-store-new-spec =
-    tie.close (tie.spec new-requires pack-requires same-length same-length-2 same-length-3 returns)
+    tie.close (tie.spec new-requires pack-reply-requires same-length same-length-2 same-length-3 returns)
