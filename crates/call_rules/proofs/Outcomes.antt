@@ -107,7 +107,8 @@ abbrev pub with-memory : Kind → List ℕ → Memories → Memories
 with-memory set m M = memories (M .relations) m
 with-memory rel m M = memories m (M .sets)
 
-nodes-count : (K : Kind) (m : List ℕ) → length (nodes-in K m) ≡ count K m
+-- a memory's nodes are as many as its head counts
+pub nodes-count : (K : Kind) (m : List ℕ) → length (nodes-in K m) ≡ count K m
 nodes-count K m = rows-length (arity K) (count K m) (body K m)
 
 -- a memory written again

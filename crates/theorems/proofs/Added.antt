@@ -7,7 +7,6 @@ use Prim.Native.Nat.{ℕ, _+_, _≤_}
 use native.Mathlib.Omega.{arith}
 use lib.Dec.{eqb}
 use borrow.Author.Tests.{ne-eqb}
-use Rattle.model.specs.Images.{new}
 use Rattle.model.specs.Store.{Kind, set, rel, pick}
 use Rattle.store_check.specs.Memory.{Memories, memory, count}
 use Rattle.call_rules.specs.Added.{node-counts, of-kind, held-in, less, added-by-new}
@@ -16,7 +15,6 @@ use Rattle.call_rules.specs.Outcome.{outcome}
 use Rattle.call_rules.specs.declared.Answer.the-variants.{Handle}
 use Rattle.call_rules.specs.declared.added.NodeCounts.{NodeCounts}
 use Rattle.call_rules.proofs.Counting.{less-same, never-zero}
-use Rattle.policies.specs.Outcome.{refused}
 use Rattle.store.specs.Calls.{new-store, set-call, set-read, relation-call, relation-read, image-call, filter-call, path-read, step}
 use Rattle.theorems.specs.Added.{its-added, its-memories, AddedRight, NewAdded, plus, together, AddedTogether}
 use Rattle.theorems.specs.AllCalls.{AnyCall, call, policy, any-refusal, any-step, Effect, begins, adds, reads, effect}

@@ -21,7 +21,6 @@ use Rattle.store.specs.Calls.{new-store, set-call, set-read, relation-call, rel
 use Rattle.store.specs.ImageCalls.{image-verdict, filter-verdict, path-verdict}
 use Rattle.store.specs.RelationCalls.{relation-verdict, relation-read-verdict}
 use Rattle.store.specs.SetCalls.{set-verdict, set-read-verdict}
-use Rattle.store.specs.declared.set_calls.SetCall.the-variants as T
 use Rattle.theorems.specs.AcceptedAlone.{reads?}
 use Rattle.theorems.specs.AllCalls.{AnyCall, call, policy, any-refusal, any-step, plain-any-step, reads, effect}
 use Rattle.theorems.specs.AllCalls.{AnyContinues}

@@ -17,7 +17,7 @@ use Rattle.call_rules.specs.OnMemories.{set-places, rel-places}
 use Rattle.call_rules.specs.Outcome.{outcome, map-answer}
 use Rattle.call_rules.specs.declared.Answer.the-variants as store
 use Rattle.call_rules.specs.declared.Refusal.the-variants.{UsedUp}
-use Rattle.policies.specs.Outcome.{refused, policy-step}
+use Rattle.policies.specs.Outcome.{policy-step}
 use Rattle.policies.specs.declared.PolicyAnswer.the-variants.{Handle, Declined}
 use Rattle.policies.specs.declared.PolicyRefusal.the-variants.{Store}
 use Rattle.theorems.specs.AllCalls.{AnyCall, policy, answered, read, any-step, all-calls, text-relates, WithinRules, policy-of}

@@ -5,16 +5,13 @@ use mathlib.Core.Logic.{_⊎_, inl, inr}
 use mathlib.Core.List.{List, [], _∷_, _++_}
 use Prim.Native.Nat.{ℕ, _-_, _<_}
 use native.Mathlib.Omega.{arith}
-use lib.Dec.{T}
 use lib.ListN.{length, getD, length-append}
-use Rattle.memory.proofs.Rows.{rows-length}
-use Rattle.model.specs.Images.{new}
 use Rattle.model.specs.Places.{fits-places}
 use Rattle.model.specs.Programs.{mk, run}
-use Rattle.model.specs.Store.{Kind, set, rel, arity, Nodes, Store, nodes, with-nodes, pick, having, place, stored, mk-store}
+use Rattle.model.specs.Store.{Kind, set, rel, Nodes, Store, nodes, with-nodes, pick, having, place, stored, mk-store}
 use Rattle.model.proofs.Bools.{by-test}
 use Rattle.model.proofs.Mk.{had, mk-nodes}
-use Rattle.store_check.specs.Memory.{Memories, memory, count, fields, body, nodes-in, decode, encode}
+use Rattle.store_check.specs.Memory.{Memories, memory, count, fields, nodes-in, decode, encode}
 use Rattle.store_check.specs.Valid.{store?}
 use Rattle.call_rules.specs.Added.{of-kind, held-in, less}
 use Rattle.call_rules.specs.OnMemories.{set-places, rel-places, on-store}
@@ -26,7 +23,7 @@ use Rattle.call_rules.specs.declared.Check.the-variants.{Level, No}
 use Rattle.call_rules.specs.declared.Refusal.the-variants.{NotStore, UsedUp}
 use Rattle.call_rules.specs.declared.added.NodeCounts.{NodeCounts}
 use Rattle.call_rules.proofs.Encoding.{encode-count}
-use Rattle.call_rules.proofs.Outcomes.{ended}
+use Rattle.call_rules.proofs.Outcomes.{ended, nodes-count}
 use Rattle.store.specs.Calls.{set-call, relation-call, step}
 use Rattle.store.specs.RelationCalls.{relation-declines}
 use Rattle.store.specs.SetCalls.{set-declines}
@@ -41,16 +38,12 @@ module _ (K : Kind) (x : List ℕ) (M : Memories) where
   abbrev N : Nodes
   N = nodes K (decode M)
 
-  nodes-counted : (J : Kind) → length (nodes J (decode M)) ≡ count J (memory J M)
+  in-memory : (J : Kind) → nodes-in J (memory J M) ≡ nodes J (decode M)
   unfolding decode
-  nodes-counted = elim [
-    | set ↦ rows-length (arity set) (count set (M .sets)) (body set (M .sets))
-    | rel ↦ rows-length (arity rel) (count rel (M .relations)) (body rel (M .relations))
-  ]
+  in-memory = elim [ set ↦ refl | rel ↦ refl ]
 
-  in-memory : nodes-in K (memory K M) ≡ N
-  unfolding decode
-  in-memory = elim K [ set ↦ refl | rel ↦ refl ]
+  nodes-counted : (J : Kind) → length (nodes J (decode M)) ≡ count J (memory J M)
+  nodes-counted J = ap length (sym (in-memory J)) ∙ nodes-count J (memory J M)
 
   abbrev M′ : Memories
   M′ = encode (fields M) (mk-store K x (decode M)) M
@@ -76,11 +69,11 @@ module _ (K : Kind) (x : List ℕ) (M : Memories) where
   held-before e = let h = had (stored K x) N in record {
     place = place (stored K x) N;
     inside = omega (arith, h .inside, ap length e, nodes-counted K);
-    is = ap (λ L. getD L (place (stored K x) N) []) (in-memory ∙ sym e) ∙ h .found;
+    is = ap (λ L. getD L (place (stored K x) N) []) (in-memory K ∙ sym e) ∙ h .found;
   }
 
   not-before : ((i : ℕ) → i < length N → ¬ (getD N i [] ≡ stored K x)) → ¬ NodeHeld K x M
-  not-before absent A = absent (A .place) (omega (arith, A .inside, nodes-counted K)) (ap (λ L. getD L (A .place) []) (sym in-memory) ∙ A .is)
+  not-before absent A = absent (A .place) (omega (arith, A .inside, nodes-counted K)) (ap (λ L. getD L (A .place) []) (sym (in-memory K)) ∙ A .is)
 
   abbrev n : NodeCounts
   n = less (held-in M′) (held-in M)
