@@ -3,10 +3,10 @@
 
     rt mir CRATE | tools/callees.py FUNCTION [CHECK..]
 
-Reads the listing of a crate and prints each function that FUNCTION runs, itself first, and behind it those that it calls; `(loop)` stands where it has
-one. A CHECK is run too, but neither listed nor entered: what runs only inside a CHECK is left out. Ends with 1 where one of the functions listed calls
-itself, directly or through others, and prints by which calls; with 2 where it cannot tell: a function without a body in the listing, one that is called
-by a pointer, or a CHECK that is never run.
+Reads the listing of a crate and prints a line for each function that FUNCTION runs, itself first: its name, `(loop)` where it has one, and the functions
+that it calls. A CHECK has no line, nor has what runs only inside it. Ends with 1 where a function that has a line calls itself, directly or through others,
+and prints by which calls; with 2 where it cannot tell: a function without a body in the listing, one that is called by a pointer, or a CHECK that is never
+run.
 
 Where the program's text fixes a value's variant, as of `RelationRead::Relates(..)` handed down from function to function, a `match` on it counts with
 the arm of that variant; any other `match` or `if` counts with all its ways.
@@ -115,8 +115,8 @@ def calls_in(body, known):
 
 # What a function runs.
 
-def graph(functions, root, checks):
-    """function -> the functions that it calls, of all that the root runs; and which of them have a loop"""
+def graph(functions, root, checks=()):
+    """function -> the functions that it calls, of all that the root runs without entering a check; and which of them have a loop"""
     calls, loops = {}, set()
     seen, rest = [], [(root, {})]
     while rest:
@@ -139,28 +139,29 @@ def graph(functions, root, checks):
     return calls, loops
 
 
-def cycle(calls):
-    """a way by calls from a function back to it, else None"""
-    done = set()
-
-    def search(name, way):
-        if name in way:
-            return way[way.index(name):] + [name]
-        if name not in done:
-            done.add(name)
-            return next(filter(None, (search(callee, way + [name]) for callee in calls.get(name, ()))), None)
-        return None
-
-    return next(filter(None, (search(name, []) for name in calls)), None)
+def way_back(name, calls):
+    """a shortest way by calls from a function to itself, else None"""
+    begun, met = [[name]], set()
+    while begun:
+        way = begun.pop(0)
+        for callee in calls[way[-1]]:
+            if callee == name:
+                return way + [name]
+            if callee not in met:
+                met.add(callee)
+                begun.append(way + [callee])
+    return None
 
 
 def main(root, checks):
-    calls, loops = graph(functions_of(read(sys.stdin.read())), root, checks)
+    functions = functions_of(read(sys.stdin.read()))
+    calls, loops = graph(functions, root, checks)
     for name, called in calls.items():
         print(name + (' (loop)' if name in loops else '') + (': ' if called else '') + ', '.join(called))
-    found = cycle(calls)
-    if found:
-        print('calls itself: ' + ' -> '.join(found))
+    with_checks, _ = graph(functions, root)
+    found = [way for way in (way_back(name, with_checks) for name in calls) if way]
+    for way in found:
+        print('calls itself: ' + ' -> '.join(way))
     return 1 if found else 0
 
 
