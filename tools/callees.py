@@ -9,7 +9,7 @@ and prints by which calls; with 2 where it cannot tell: a function without a bod
 run.
 
 Where the program's text fixes a value's variant, as of `RelationRead::Relates(..)` handed down from function to function, a `match` on it counts with
-the arm of that variant; any other `match` or `if` counts with all its ways.
+the arm of that variant; any other `match` or `if` counts with all its branches.
 """
 import re
 import sys
@@ -82,7 +82,7 @@ def variants_in(body, parameters, given):
     return {local: variant for local, variant in known.items() if local not in lent}
 
 
-def ways(switch, known):
+def branches(switch, known):
     """the bodies of a `match` that may run"""
     _, operand, arms = switch
     path = list(items(operand[1][2])) if operand[0] == 'copy' else []
@@ -99,7 +99,7 @@ def ways(switch, known):
 
 def running(body, known):
     """the terms of a body that may run"""
-    return within(body, lambda term: ways(term, known) if term[0] == 'switch' else term)
+    return within(body, lambda term: branches(term, known) if term[0] == 'switch' else term)
 
 
 def calls_in(body, known):
