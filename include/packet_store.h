@@ -20,9 +20,9 @@
  *
  * Places are the whole nodes that fit, at most 4,096 of each kind: PACKET_STORE_RELATIONS_LEN(4096) numbers of relations
  * and PACKET_STORE_SETS_LEN(4096) of sets are never exceeded in use. Numbers beyond the last place are never touched.
- * A run of length 0 may have a null pointer, and so may a text of length 0. What a function writes, runs or children,
- * must not overlap anything else that it is lent, and nothing else may use it during the call. The functions keep nothing
- * between calls, allocate nothing and may be called from several threads on different memories.
+ * A run of length 0 may have a null pointer, and so may a text of length 0. What a function writes, runs, children or a
+ * cursor, must not overlap anything else that it is lent, and nothing else may use it during the call. The functions keep
+ * nothing between calls, allocate nothing and may be called from several threads on different memories.
  *
  * Set handles 0 and 1 are the empty and the full set of level 0; the set node at place j, from 0, has handle
  * 2 * (j + 1), and the odd handle after it is its complement. Relation handles 0 and 1 are the empty and the full
@@ -32,7 +32,8 @@
  * the handle, 1 or 0 for yes or no, the first child, or 0 where the call was refused. A policy that is refused with 5, 7, 8
  * or 9 has an offset in its text there. A function that may add nodes returns a struct, packet_store_reply: its answer, and
  * the relation nodes and set nodes that the call added. One that adds nothing returns its answer alone, but for
- * packet_store_relation_first_path, which returns a pair of packets beside it.
+ * packet_store_relation_first_path, which returns a pair of packets beside it; packet_store_set_next moves on a cursor that
+ * it is lent.
  *
  *   1 not a store           2 handle not held     3 levels differ     4 no children there
  *   5 number out of range   6 places used up      7 not a policy      8 `!` over a non-predicate
@@ -190,6 +191,31 @@ uint64_t packet_store_set_is_zero(const uint32_t *relations, size_t relations_le
 /* 1 if some packet is in a and in b, else 0. Refuses: 1; 2 if a or b is not held; 3 if their levels differ. */
 uint64_t packet_store_set_intersects(const uint32_t *relations, size_t relations_len, const uint32_t *sets, size_t sets_len,
                                      uint32_t *work, size_t work_len, uint32_t a, uint32_t b);
+
+/*
+ * The place reached in a set whose packets are taken one at a time. Of the two marks given and ended 0 is no and any other
+ * number yes, so any four numbers are a cursor. A set is taken from its beginning by a cursor of its handle and three zeros.
+ */
+typedef struct packet_store_cursor {
+    uint32_t handle; /* the set */
+    uint32_t last;   /* the last packet given, or any other of the set's level, from which to go on */
+    uint32_t given;  /* whether a packet was given; if not, last is not looked at */
+    uint32_t ended;  /* whether the end was met */
+} packet_store_cursor;
+
+/*
+ * The next packet of the cursor's set: the first that comes after last, or the first of all where none was given. Packets
+ * are in field order, compared field by field from field 0 on, 0 before 1; last need not be in the set. Called again and
+ * again on a cursor of a handle and three zeros it gives each packet of the set exactly once and then the end; calls other
+ * than packet_store_new between two of these alter nothing of it. Each call checks both memories, as every function does.
+ *
+ * Returns 1 where there is a packet, which is then in last, with 1 in given; 0 for the end, with 1 in ended if that was 0.
+ * All else in the cursor stays: the end met alters neither last nor given, and with the end met nothing changes any more.
+ * Refuses: 1; 2 if the handle is not held; 5 if a packet was given and last is 2^level or more. All three are found before
+ * the end, also where it was met. A refusal leaves the cursor as it is. The cursor is never null, and no run may overlap it.
+ */
+uint64_t packet_store_set_next(const uint32_t *relations, size_t relations_len, const uint32_t *sets, size_t sets_len,
+                               uint32_t *work, size_t work_len, packet_store_cursor *cursor);
 
 /* RELATIONS: CALLS THAT MAY ADD RELATION NODES. Each returns the handle of a relation, and the nodes added. */
 

@@ -1,11 +1,11 @@
 //! One call on stores of growing size: its time beside that of the entry check alone and of the Rust.
 
 use crate::call::Call;
+use crate::fill;
 use crate::sides::{Lent, MOST_PLACES};
 use crate::tables;
 use oracle::random::Random;
 use packet_store as library;
-use packet_store::relations_len;
 use reference::spp::{SPPstore, SPP};
 
 /// The relation nodes of the stores.
@@ -50,7 +50,7 @@ pub fn table(seed: u64, work_bytes: usize) -> String {
     let mut base = base(&mut random, work_bytes);
     let mut times = vec![];
     for size in SIZES {
-        fill(&mut base.lent, size, &mut random);
+        fill::relations(&mut base.lent, size, &mut random);
         times.push(least(&mut base));
     }
     let title = format!("k = {FIELDS}, working memory {} KiB", work_bytes >> 10);
@@ -99,34 +99,5 @@ fn base(random: &mut Random, work_bytes: usize) -> Base {
         if lent.count() <= SIZES[0] && calls[1..].iter().all(adds) {
             return Base { lent, calls };
         }
-    }
-}
-
-/// Adds random nodes until so many are held.
-fn fill(lent: &mut Lent, size: u32, random: &mut Random) {
-    let mut levels: Vec<Vec<u32>> = vec![vec![]; FIELDS as usize + 1];
-    let mut level_of = vec![0, 0];
-    let mut entered = 0;
-    while lent.count() < size {
-        while entered < lent.count() + 2 {
-            if entered >= 2 {
-                let child = lent.relations[relations_len(entered as usize - 2)];
-                level_of.push(level_of[child as usize] + 1);
-            }
-            levels[level_of[entered as usize]].push(entered);
-            entered += 1;
-        }
-        let level = &levels[random.below(FIELDS) as usize];
-        let [x00, x01, x10, x11] = [(); 4].map(|()| random.pick(level));
-        let made = library::relation_mk(
-            &mut lent.relations,
-            &lent.sets,
-            &mut lent.work,
-            x00,
-            x01,
-            x10,
-            x11,
-        );
-        made.expect("fits");
     }
 }

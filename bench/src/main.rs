@@ -3,9 +3,11 @@
 mod buddy;
 mod call;
 mod calls;
+mod fill;
 mod first;
 mod first_hard;
 mod lister;
+mod members;
 mod policies;
 mod rounds;
 mod rows;
@@ -50,6 +52,7 @@ fn main() -> ExitCode {
         ["calls", seed] => calls(number(seed)),
         ["first", seed] => first(number(seed)),
         ["first", case, call, kib] => first_hard::once(case, call, (number(kib) as usize) << 10),
+        ["members", seed] => members(number(seed)),
         ["stack", seed] => stack(number(seed)),
         ["lister", seed] => lister(number(seed)),
         ["texts", seed, count] => texts(number(seed), number(count) as usize),
@@ -57,8 +60,8 @@ fn main() -> ExitCode {
         ["once", "rust"] => policies::once(Side::Rust, LARGE.fields),
         _ => {
             eprintln!(
-                "usage: bench [policies SEED | worst | slow [CASE KIB] | small SEED | calls SEED | first SEED | first CASE CALL KIB | stack SEED | lister SEED \
-                 | texts SEED COUNT | once (ours | rust)]"
+                "usage: bench [policies SEED | worst | slow [CASE KIB] | small SEED | calls SEED | first SEED | first CASE CALL KIB | members SEED \
+                 | stack SEED | lister SEED | texts SEED COUNT | once (ours | rust)]"
             );
             return ExitCode::from(2);
         }
@@ -78,6 +81,7 @@ fn tables(seed: u64) {
     small(seed);
     calls(seed);
     first(seed);
+    members(seed);
     stack(seed);
     lister(seed);
 }
@@ -116,6 +120,10 @@ fn first(seed: u64) {
         println!("{}", first::table(seed, what, &FIRST_SMALL_WORKS));
     }
     println!("{}", first_hard::table());
+}
+
+fn members(seed: u64) {
+    println!("{}", members::table(seed, &rows::WORKS));
 }
 
 fn stack(seed: u64) {

@@ -33,6 +33,8 @@ pub enum Answer {
     Children(Vec<u32>),
     /// An input and an output, or none.
     Pair(Option<(u32, u32)>),
+    /// The next packet of a set, or the end.
+    Member(Option<u32>),
     Refused(Refusal),
     /// A policy with a fault at this offset.
     RefusedAt(Fault, usize),
@@ -61,7 +63,8 @@ impl fmt::Display for Answer {
                 children.iter().try_for_each(|child| write!(f, " {child}"))
             }
             Answer::Pair(Some((input, output))) => write!(f, "p {input} {output}"),
-            Answer::Pair(None) => write!(f, "n"),
+            Answer::Member(Some(packet)) => write!(f, "m {packet}"),
+            Answer::Pair(None) | Answer::Member(None) => write!(f, "n"),
             Answer::Refused(refusal) => write!(f, "r {}", *refusal as u32),
             Answer::RefusedAt(fault, offset) => write!(f, "r {} {offset}", *fault as u32),
         }

@@ -7,7 +7,7 @@ use reference::spp::{SPPstore, SPP};
 /// The first packet of p, compared field by field from field 0 on, 0 before 1, that the relation relates to some packet of
 /// q; and the first packet of q that it relates that input to. The smaller sets are made in a copy of the store.
 pub fn first_path(store: &SPPstore, p: SP, relation: SPP, q: SP) -> Option<(u32, u32)> {
-    let mut copy = SPPstore::with_nodes(store.sp.num_vars(), store.nodes(), store.sp.nodes());
+    let mut copy = copy(store);
     if !copy.has_path(p, relation, q) {
         return None;
     }
@@ -16,9 +16,14 @@ pub fn first_path(store: &SPPstore, p: SP, relation: SPP, q: SP) -> Option<(u32,
     Some((input, output))
 }
 
+/// A store with the same nodes, to make others in.
+pub fn copy(store: &SPPstore) -> SPPstore {
+    SPPstore::with_nodes(store.sp.num_vars(), store.nodes(), store.sp.nodes())
+}
+
 /// The first packet of a set that will do, as a number and as a set. Some packet does: `any` says of a set whether one of
 /// its packets does. Field 0 is the number's highest bit.
-fn first(store: &mut SPPstore, set: SP, any: impl Fn(&mut SPPstore, SP) -> bool) -> (u32, SP) {
+pub fn first(store: &mut SPPstore, set: SP, any: impl Fn(&mut SPPstore, SP) -> bool) -> (u32, SP) {
     let level = store.sp.level(set);
     let (mut packet, mut left) = (0, set);
     for field in 0..level {

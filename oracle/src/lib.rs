@@ -5,6 +5,7 @@ pub mod call;
 pub mod check;
 pub mod draw;
 mod first_path;
+pub mod next_member;
 pub mod operations;
 pub mod policy;
 pub mod random;

@@ -10,7 +10,8 @@ const USAGE: &str = "usage: oracle replay
        oracle check
        oracle draw SEED COUNT [sets | relations | both | policies]";
 
-const EFFORT: Effort = Effort { all_up_to: 65536, random_lists: 5000, all_pairs_to: 2 };
+const EFFORT: Effort =
+    Effort { all_up_to: 65536, random_lists: 5000, all_pairs_to: 2, all_members_to: 3 };
 
 fn main() -> ExitCode {
     let arguments: Vec<String> = std::env::args().skip(1).collect();

@@ -3,6 +3,7 @@
 
 use crate::answer::Answer;
 use crate::first_path::first_path;
+use crate::next_member::next_member;
 use reference::sp::SP;
 use reference::spp::{SPPstore, SPP};
 
@@ -17,9 +18,11 @@ pub enum Sort {
     /// A field's value, 0 or 1.
     Value,
     Packet,
+    /// Of a record: 0 is no, any other number yes.
+    Mark,
 }
 
-use Sort::{Field, Packet, Relation, Set, Value};
+use Sort::{Field, Mark, Packet, Relation, Set, Value};
 
 pub struct Operation {
     pub name: &'static str,
@@ -43,7 +46,7 @@ pub fn all() -> impl Iterator<Item = &'static Operation> {
 }
 
 /// Operations on sets alone.
-pub static SETS: [Operation; 13] = [
+pub static SETS: [Operation; 14] = [
     op("set.mk", &[Set, Set], |s, x| set(s.sp.mk(SP(x[0]), SP(x[1])))),
     op("set.get", &[Set], |s, x| {
         let node = s.sp.get(SP(x[0]));
@@ -60,6 +63,11 @@ pub static SETS: [Operation; 13] = [
     op("set.one", &[], |s, _| set(s.sp.one_at_k())),
     op("intersects", &[Set, Set], |s, x| Answer::YesNo(s.sp.intersects(SP(x[0]), SP(x[1])))),
     op("ifelse", &[Field, Set, Set], |s, x| set(s.sp.ifelse(x[0], SP(x[1]), SP(x[2])))),
+    // The numbers of the record: the set, the last packet given, whether any was given, whether the end was met.
+    op("set.next", &[Set, Packet, Mark, Mark], |s, x| {
+        let last = (x[2] != 0).then_some(x[1]);
+        Answer::Member(if x[3] != 0 { None } else { next_member(s, SP(x[0]), last) })
+    }),
 ];
 
 /// Operations on relations alone.

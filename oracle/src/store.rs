@@ -163,6 +163,8 @@ impl Store {
             "set.get" | "rel.get" => (level == 0).then_some(Refusal::NoChildren),
             "ifelse" => (level <= arguments[0]).then_some(Refusal::NoChildren),
             "set.mk" | "rel.mk" => (level == self.fields).then_some(Refusal::OutOfRange),
+            // With none given the last packet is not looked at.
+            "set.next" if arguments[2] == 0 => None,
             _ => sorted()
                 .any(|(&sort, &x)| sort == Sort::Packet && u64::from(x) >> level != 0)
                 .then_some(Refusal::OutOfRange),

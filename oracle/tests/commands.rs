@@ -36,9 +36,9 @@ fn a_line_that_is_no_call_stops_the_replay() {
 }
 
 #[test]
-fn there_are_43_calls_with_new() {
+fn there_are_44_calls_with_new() {
     let names: HashSet<_> = operations::all().map(|operation| operation.name).collect();
-    assert_eq!(names.len() + 1, 43);
+    assert_eq!(names.len() + 1, 44);
 }
 
 #[test]
@@ -52,10 +52,12 @@ fn a_drawn_list_has_every_call_and_answer() {
     let list = drawn(3, 20_000, Part::All);
     assert!(list.iter().all(|line| line.parse::<Call>().unwrap().to_string() == *line));
     let first_word = |line: &String| line.split(' ').next().map(String::from);
-    assert_eq!(list.iter().filter_map(first_word).collect::<HashSet<_>>().len(), 43);
+    assert_eq!(list.iter().filter_map(first_word).collect::<HashSet<_>>().len(), 44);
     let answers = replayed(&list.join("\n"));
     assert!(answers.starts_with('o'));
-    for start in ["h ", "b 0 ", "b 1 ", "c ", "p ", "n ", "r 2 ", "r 3 ", "r 4 ", "r 5 ", "r 6 "] {
+    for start in
+        ["h ", "b 0 ", "b 1 ", "c ", "p ", "m ", "n ", "r 2 ", "r 3 ", "r 4 ", "r 5 ", "r 6 "]
+    {
         assert!(answers.lines().any(|line| line.starts_with(start)), "{start}");
     }
 }
@@ -79,8 +81,8 @@ fn a_part_draws_its_own_operations_only() {
 #[test]
 fn the_reference_means_what_document_01_says() {
     let mut table = vec![];
-    let agreed =
-        check(&Effort { all_up_to: 256, random_lists: 50, all_pairs_to: 1 }, &mut table).unwrap();
+    let effort = Effort { all_up_to: 256, random_lists: 50, all_pairs_to: 1, all_members_to: 2 };
+    let agreed = check(&effort, &mut table).unwrap();
     assert!(agreed, "{}", String::from_utf8(table).unwrap());
 }
 
@@ -106,4 +108,18 @@ fn the_whole_input_comes_before_the_output() {
     assert!(answers[3].starts_with("p 0 2 "), "{}", answers[3]);
     assert!(answers[4].starts_with("p 1 0 "), "{}", answers[4]);
     assert!(answers[5].starts_with("n "), "{}", answers[5]);
+}
+
+/// Set 9 of level 2 has the packets 00, 10 and 11, set 8 the packet 01, set 4 none.
+#[test]
+fn a_packet_of_a_set_is_given_or_the_end() {
+    let list = "new 2 99 99\nset.mk 0 1\nset.mk 7 3\nset.next 9 0 0 0\nset.next 9 0 1 0\nset.next 9 1 7 0\n\
+                set.next 9 2 1 0\nset.next 9 3 1 0\nset.next 9 0 1 5\nset.next 8 0 1 0\nset.next 8 1 1 0\n\
+                set.next 4 77 0 0\nset.next 5 4 1 1\nset.next 5 4 0 1\nset.next 10 4 1 1\nset.next 1 9 0 0\n\
+                set.next 1 0 1 0\nset.next 0 0 0 0\nset.next 1 1 1 0\n";
+    let answers = "o 6 2\nh 6 6 3\nh 9 6 4\nm 0 6 4\nm 2 6 4\nm 2 6 4\n\
+                   m 3 6 4\nn 6 4\nn 6 4\nm 1 6 4\nn 6 4\n\
+                   n 6 4\nr 5 6 4\nn 6 4\nr 2 6 4\nm 0 6 4\n\
+                   n 6 4\nn 6 4\nr 5 6 4\n";
+    assert_eq!(replayed(list), answers);
 }

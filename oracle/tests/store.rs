@@ -60,6 +60,10 @@ fn refusals_come_in_document_01s_order() {
             ("relates 4 0 2", "r 5"),
             ("relates 1 0 1", "r 5"),
             ("relates 5 2 2", "b 1"),
+            ("set.next 6 9 1 1", "r 2"),
+            ("set.next 5 4 1 1", "r 5"),
+            ("set.next 5 4 0 1", "n"),
+            ("set.next 5 2 1 0", "m 3"),
         ],
     );
     assert_eq!(store.counts(), (6, 2));
@@ -74,6 +78,10 @@ fn a_packet_of_32_fields_is_never_out_of_range() {
         &[
             (&format!("relates {one} 4294967295 4294967295"), "b 1"),
             (&format!("relates {one} 4294967295 2147483647"), "b 0"),
+            ("set.one", "h 65"),
+            ("set.next 65 4294967294 1 0", "m 4294967295"),
+            ("set.next 65 4294967295 1 0", "n"),
+            ("set.next 65 2147483647 1 0", "m 2147483648"),
         ],
     );
 }

@@ -1,4 +1,5 @@
-//! The table of the calls: all but [`policy`](crate::policy), which takes a text.
+//! The table of the calls: all but [`policy`](crate::policy), which takes a text, and [`set_next`](crate::set_next), which is lent a
+//! cursor.
 
 use crate::table::calls;
 use crate::{Made, Node};

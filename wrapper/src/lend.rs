@@ -51,8 +51,8 @@ macro_rules! pointer {
 macro_rules! ask {
     ($name:ident($relations:ident, $sets:ident, $work:ident $(, $value:expr)*)) => {{
         let (relations_len, sets_len, work_len) = ($relations.len(), $sets.len(), $work.len());
-        // SAFETY: each pointer comes from a slice of the length beside it, and slices that are
-        // written are borrowed mutably, so none overlaps another. The function writes only to them.
+        // SAFETY: each pointer comes from a slice of the length beside it, or from what the call
+        // writes besides. What is written is borrowed mutably, so none overlaps another.
         unsafe {
             $crate::raw::$name(
                 $crate::lend::Lend::pointer($relations),

@@ -11,6 +11,9 @@
 //! appended its node, [`Node`]. The handle does not say it: an old one may stand beside new nodes. [`raw`]
 //! has the C functions themselves, whose numbers beside a refusal are 0.
 //!
+//! [`set_next`] gives the packets of a set in turn and moves on a [`Cursor`] that it is lent; [`members`] is an
+//! iterator over it.
+//!
 //! A refused call changes neither `relations` nor `sets`; every call leaves `work` all zeros. Where several
 //! refusals apply, the first in the function's list is given.
 //!
@@ -32,6 +35,7 @@ mod calls;
 mod given;
 mod head;
 mod lend;
+mod members;
 mod policy_call;
 pub mod raw;
 mod refusal;
@@ -40,5 +44,6 @@ mod table;
 pub use calls::*;
 pub use given::{Added, Made, Node};
 pub use head::*;
+pub use members::{members, set_next, Cursor, Members};
 pub use policy_call::policy;
 pub use refusal::{Fault, PolicyRefusal, Refusal};

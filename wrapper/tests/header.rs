@@ -1,6 +1,7 @@
 //! The header, docs/CALLS.md and this crate have the same numbers and the same words.
 
 use packet_store::*;
+use std::mem::{offset_of, size_of};
 
 const HEADER: &str = include_str!("../../include/packet_store.h");
 const CALLS: &str = include_str!("../../docs/CALLS.md");
@@ -19,6 +20,23 @@ fn lengths_are_the_headers() {
     assert_eq!(defined("PACKET_STORE_SET_HEAD"), SET_HEAD);
     assert_eq!(defined("PACKET_STORE_SET_COUNT"), SET_COUNT);
     assert_eq!(defined("PACKET_STORE_WORK_LEN"), WORK_LEN);
+}
+
+#[test]
+fn a_cursor_has_the_headers_numbers() {
+    let (_, rest) = HEADER.split_once("typedef struct packet_store_cursor {").unwrap();
+    let (fields, _) = rest.split_once('}').unwrap();
+    let fields = fields.lines().filter_map(|line| line.trim().strip_prefix("uint32_t "));
+    let names: Vec<&str> = fields.map(|field| field.split(';').next().unwrap()).collect();
+    let offsets = [
+        ("handle", offset_of!(Cursor, handle)),
+        ("last", offset_of!(Cursor, last)),
+        ("given", offset_of!(Cursor, given)),
+        ("ended", offset_of!(Cursor, ended)),
+    ];
+    assert_eq!(offsets.map(|(name, _)| name), names[..]);
+    assert_eq!(offsets.map(|(_, offset)| offset), [0, 4, 8, 12]);
+    assert_eq!(size_of::<Cursor>(), 16);
 }
 
 #[test]

@@ -1,7 +1,7 @@
-//! What only C sees: null pointers of no length, children that stay as they are, and the struct of a pair.
+//! What only C sees: null pointers of no length, children and a cursor that stay as they are, and the struct of a pair.
 
 use packet_store::raw::{self, Pair, Reply};
-use packet_store::{new, relation_mk, relations_len, set_zero, sets_len};
+use packet_store::{new, relation_mk, relations_len, set_zero, sets_len, Cursor};
 use std::ptr::{null, null_mut};
 
 /// The function `get` of a kind.
@@ -71,6 +71,32 @@ fn a_pair_stands_beside_its_answer() {
     assert_eq!(first(sets.len(), 3, 1, 3), given(3 << 32, 0, 0));
     assert_eq!(first(sets.len(), 3, 6, 1), given(2 << 32, 0, 0));
     assert_eq!(first(sets.len() - 1, 9, 6, 1), given(1 << 32, 0, 0));
+}
+
+#[test]
+fn a_cursor_is_moved_on_and_nothing_beside_it() {
+    let (mut relations, mut sets) = ([0; relations_len(3)], [0; sets_len(1)]);
+    new(&mut relations, &mut sets, &mut [], 1).unwrap();
+    // The answer, and the four numbers after the call; guard words stand beside them.
+    let next = |len, numbers: [u32; 4]| {
+        let guard = [0xfeed; 4];
+        let mut lent = [guard, numbers, guard];
+        let (r, s, cursor) = (relations.as_ptr(), sets.as_ptr(), lent[1].as_mut_ptr());
+        // SAFETY: the pointers are those of arrays that have these lengths, a cursor is four numbers, and work has none.
+        let answer = unsafe {
+            raw::set_next(r, relations.len(), s, len, null_mut(), 0, cursor.cast::<Cursor>())
+        };
+        assert_eq!((lent[0], lent[2]), (guard, guard));
+        (answer, lent[1])
+    };
+    assert_eq!(next(sets.len(), [3, 0, 0, 0]), (1, [3, 0, 1, 0]));
+    assert_eq!(next(sets.len(), [3, 0, 9, 0]), (1, [3, 1, 1, 0]));
+    assert_eq!(next(sets.len(), [3, 1, 9, 0]), (0, [3, 1, 9, 1]));
+    assert_eq!(next(sets.len(), [2, 70, 0, 0]), (0, [2, 70, 0, 1]));
+    assert_eq!(next(sets.len(), [3, 0, 0, 80]), (0, [3, 0, 0, 80]));
+    assert_eq!(next(sets.len(), [3, 2, 9, 80]), (5 << 32, [3, 2, 9, 80]));
+    assert_eq!(next(sets.len(), [4, 2, 9, 80]), (2 << 32, [4, 2, 9, 80]));
+    assert_eq!(next(sets.len() - 1, [4, 2, 9, 80]), (1 << 32, [4, 2, 9, 80]));
 }
 
 #[test]

@@ -2,7 +2,8 @@
 use mathlib.Core.Path.{_≡_, refl, sym, ap, _∙_, subst}
 use mathlib.Core.List.{List}
 use mathlib.Core.Bool.{Bool, true, false, _&&_}
-use Prim.Native.Nat.{ℕ, _<_, _≤_}
+use Prim.Native.Nat.{ℕ, _^_, _<_, _≤_}
+use native.Mathlib.Omega.{arith}
 use lib.ListN.{length}
 use lib.Dec.{ltb, eqb, T}
 use borrow.Author.Tests.{lt-ltb, le-ltb, eq-eqb, ne-eqb}
@@ -113,3 +114,10 @@ module _ {X r : Check} (q : Refusal) (t : ℕ → Bool) (C : X ≡ r) where
   pub still-no : (p : Refusal) → r ≡ No p → also X q t ≡ r
   unfolding also
   still-no p e = ap (λ c. also c q t) (C ∙ e) ∙ sym e
+
+-- a packet x against the power of 2 that was computed
+pub too-big : (x w p l n : ℕ) → w ≡ x → p ≡ 2 ^ n → n ≡ l → p ≤ w → ltb x (2 ^ l) ≡ false
+too-big x w p l n e f g h = le-ltb x (2 ^ l) (subst (λ l. 2 ^ l ≤ x) g (omega (arith, e, f)))
+
+pub in-range : (x w p l n : ℕ) → w ≡ x → p ≡ 2 ^ n → n ≡ l → w < p → ltb x (2 ^ l) ≡ true
+in-range x w p l n e f g h = lt-ltb x (2 ^ l) (subst (λ l. x < 2 ^ l) g (omega (arith, e, f)))

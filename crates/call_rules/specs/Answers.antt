@@ -5,7 +5,7 @@ use Prim.Native.Nat.{ℕ}
 use Rattle.call_rules.specs.declared.Refusal.{Refusal}
 use Rattle.call_rules.specs.declared.Refusal.the-variants.{NotStore, NotHeld, LevelsDiffer, NoChildren, OutOfRange, UsedUp, TooLong}
 use Rattle.call_rules.specs.declared.Answer.{Answer}
-use Rattle.call_rules.specs.declared.Answer.the-variants.{Handle, Truth, SetNode, RelationNode, Declined, Pair, Nothing}
+use Rattle.call_rules.specs.declared.Answer.the-variants.{Handle, Truth, SetNode, RelationNode, Declined, Pair, Nothing, Member}
 
 -- 01, "What each operation declines, in order"
 abbrev pub refusal-number : Refusal → ℕ
@@ -26,8 +26,9 @@ refusal (RelationNode x00 x01 x10 x11) = 0
 refusal (Declined r) = refusal-number r
 refusal (Pair x y) = 0
 refusal Nothing = 0
+refusal (Member x) = 0
 
--- a handle, yes or no as 1 or 0, the children, 1 and a pair or 0; nothing where the call is declined
+-- a handle, yes or no as 1 or 0, the children, 1 and a pair or a member or else 0; nothing where the call is declined
 abbrev pub values : Answer → List ℕ
 values (Handle h) = h ∷ []
 values (Truth true) = 1 ∷ []
@@ -37,3 +38,4 @@ values (RelationNode x00 x01 x10 x11) = x00 ∷ x01 ∷ x10 ∷ x11 ∷ []
 values (Declined r) = []
 values (Pair x y) = 1 ∷ x ∷ y ∷ []
 values Nothing = 0 ∷ []
+values (Member x) = 1 ∷ x ∷ []

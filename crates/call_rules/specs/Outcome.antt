@@ -1,5 +1,5 @@
 -- The outcome of a call, in document 01's order of refusals: one definition for memories and for the plain store.
-use mathlib.Core.Bool.{Bool, true, false, _&&_}
+use mathlib.Core.Bool.{Bool, true, false, _&&_, _||_}
 use Prim.Native.Nat.{ℕ, _^_}
 use lib.Dec.{ltb, eqb}
 use Rattle.model.specs.Store.{Kind, set, rel, Store, pick}
@@ -56,6 +56,10 @@ of-branches k K S v a b = guard OutOfRange (ltb v k) (also (of-two k K S a b) No
 -- 01, `relates`: "5 if a packet is 2^level or more"
 abbrev pub of-packets : ℕ → Store → ℕ → ℕ → ℕ → Check
 of-packets k S a p q = also (also (of-one k rel S a) OutOfRange (λ l. ltb p (2 ^ l))) OutOfRange (λ l. ltb q (2 ^ l))
+
+-- a set a and a packet p, which counts where the mark g is not 0. 02, M-103: "5 where a header was given and is 2^level or more"
+abbrev pub of-given : ℕ → Store → ℕ → ℕ → ℕ → Check
+of-given k S a g p = also (of-one k set S a) OutOfRange (λ l. eqb g 0 || ltb p (2 ^ l))
 
 -- 2 and 3 of a set p, a relation a and a set q: 2 of any comes before 3
 unfoldable pub of-path : ℕ → Store → ℕ → ℕ → ℕ → Check

@@ -26,6 +26,7 @@ pub enum Answer {
     Declined(Refusal),
     Pair(u32, u32),
     Nothing,
+    Member(u32),
 }
 
 // What a call that may add nodes returns: its answer, and the nodes that it added.

@@ -5,7 +5,8 @@ ghost use Prim.Native.Nat.{_<_, _≤_};
 ghost use lib.ListN.{length};
 ghost use Rattle.model.specs.Store.{Kind, set, rel, arity, Store, nodes};
 ghost use Rattle.model.specs.WellFormed.{is-held};
-ghost use Rattle.call_rules.specs.Outcome.{of-one, of-pair, of-two, of-path, of-parent, of-children, of-four-children, of-field, of-branches, of-packets};
+ghost use Rattle.call_rules.specs.Outcome.{of-one, of-pair, of-two, of-path, of-parent, of-children, of-four-children, of-field, of-branches};
+ghost use Rattle.call_rules.specs.Outcome.{of-packets, of-given};
 ghost use Rattle.call_rules.specs.Checking.{Low, Checks, ChecksBoth, AllAt};
 
 // Whether a handle is held among n nodes of c numbers.
@@ -220,6 +221,23 @@ pub fn as_u64(x: u32) -> u64
     ensures { λ r. ⌜ r ≡ x ⌝ }
 {
     x as u64
+}
+
+// A set, and a packet of its level where one was given.
+pub fn given(nodes: &[u32], n: usize, k: u32, a: u32, given: u32, last: u32) -> crate::Check
+    requires { ⌜ k ≤ 32 ⌝ }
+    ensures { λ r. ⌜ Checks set (now (nodes .entry)) n k (λ S. of-given k S a given last) r ⌝ }
+{
+    let check = one(nodes, 2, n, k, a);
+    if let crate::Check::Level(l) = check {
+        if given != 0 {
+            let most = memory::power(memory::as_level(l));
+            if as_u64(last) >= most {
+                return crate::Check::No(crate::Refusal::OutOfRange);
+            }
+        }
+    }
+    check
 }
 
 // A relation, and two packets of its level.

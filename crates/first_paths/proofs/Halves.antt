@@ -1,7 +1,8 @@
 -- `first_member`: what is left of it after the shortcuts, and the rank of the first of two halves.
 use mathlib.Core.Path.{_≡_, refl, subst}
 use mathlib.Core.List.{List, [], _∷_}
-use Prim.Native.Nat.{ℕ, _+_, _-_, _^_, _<_, _≤_, min}
+use Prim.Native.Nat.{ℕ, suc, _+_, _-_, _^_, _<_, _≤_, min}
+use native.Mathlib.Omega.{arith}
 use borrow.Author.Tests.{lt-ltb, le-ltb}
 use Rattle.model.specs.FirstInputs.{from-halves, first-member-op, first-member}
 use Rattle.model.specs.Programs.{Prog}
@@ -32,3 +33,7 @@ module _ (l p : ℕ) where
       → Reduces set (node1 first-member-op l p) (from-halves (l - 1) (first-member (l - 1) p0) (first-member (l - 1) p1)) m w
   unfolding first-member
   member-opened h X = looked (by begin (node1-open first-member-op l p h)) X
+
+-- a level that is not 0 is one above another
+pub one-above : (l : ℕ) → (l ≡ 0 → ⊥) → l ≡ suc (l - 1)
+one-above l h = omega arith

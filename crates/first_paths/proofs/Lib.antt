@@ -1,4 +1,5 @@
 pub mod Halves
+pub mod FromRanks
 pub mod Ranks
 pub mod FirstInputs
 pub mod Digits

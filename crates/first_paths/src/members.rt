@@ -1,9 +1,10 @@
-// The first packet of a set, by its rank.
+// The first packet of a set, and the first from a rank on, by its rank.
 ghost use mathlib.Core.Path.{_≡_};
 ghost use Prim.Native.Nat.{_+_, _^_, _≤_, min};
 ghost use Rattle.model.specs.Store.{set};
 ghost use Rattle.model.specs.FirstInputs.{first-member};
 ghost use Rattle.memory.specs.Performing.{Performs};
+ghost use Rattle.first_paths.specs.FromRanks.{FindsFrom};
 use memory::RunState;
 
 // The rank that stands for no packet of this level.
@@ -52,4 +53,36 @@ pub fn first_member(sets: &[u32], work: &[u32], s: RunState, level: u8, p: u32) 
     }
     let r1 = first_member(sets, work, r0, below, x.x1);
     memory::insert::with_handle(r1, in_second_half(r1.h, below))
+}
+
+// The rank of the first packet of a set from the rank `from` on; 2^level where there is none. It goes down along `from`, and where the half that has `from`
+// has none left, to the first packet of the other. An empty set ends at once, so that it calls itself at most four times a level.
+pub fn first_from(sets: &[u32], work: &[u32], level: u8, p: u32, from: u64) -> u64
+    requires { ⌜ level ≤ 32 ⌝ }
+    ensures small { λ r. ⌜ r ≤ 2 ^ level ⌝ }
+    ensures first { λ r. ⌜ FindsFrom level p from (now (sets .entry)) (now (work .entry)) r ⌝ }
+{
+    let pp = memory::property_words::set_properties(sets, work, level, p);
+    if pp.empty {
+        return memory::power(level);
+    }
+    if level == 0 {
+        if from == 0 {
+            return 0;
+        }
+        return 1;
+    }
+    let x = sets::get(sets, p);
+    let below = level - 1;
+    let half = memory::power(below);
+    if from >= half {
+        let rest = first_from(sets, work, below, x.x1, from - half);
+        return half + rest;
+    }
+    let r0 = first_from(sets, work, below, x.x0, from);
+    if r0 < half {
+        return r0;
+    }
+    let r1 = first_from(sets, work, below, x.x1, 0);
+    half + r1
 }

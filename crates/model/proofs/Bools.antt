@@ -23,6 +23,14 @@ pub both-T : (p q : Bool) → T p → T q → T (p && q)
 both-T true q t u = u
 both-T false q t u = absurd t
 
+pub T-true : (b : Bool) → T b → b ≡ true
+T-true true t = refl
+T-true false t = absurd t
+
+pub and-iff : (a b : Bool) {X Y : Type 0} → (a ≡ true) ↔ X → (b ≡ true) ↔ Y → ((a && b) ≡ true) ↔ (X × Y)
+and-iff true b e f = (λ g. (e .0 refl, f .0 g), λ g. f .1 (g .1))
+and-iff false b e f = (λ g. absurd (no-true refl g), λ g. absurd (no-true refl (e .1 (g .0))))
+
 pub eqb-iff : (m n : ℕ) → T (eqb m n) ↔ (m ≡ n)
 eqb-iff m n = (eqb→eq m n, λ e. subst (λ x. T (eqb m x)) e (eqb-refl m))
 

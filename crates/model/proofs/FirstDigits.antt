@@ -11,7 +11,7 @@ use lib.Dec.{ltb→lt, nltb→le}
 use borrow.Author.Tests.{eq-eqb, ne-eqb, le-ltb}
 use Rattle.model.specs.FieldOrder.{before?, rank, ranked}
 use Rattle.model.specs.FirstInputs.{output-bit, first-digit}
-use Rattle.model.specs.FirstPair.{FirstPair}
+use Rattle.model.specs.FirstPair.{LeastRank, FirstPair}
 use Rattle.model.specs.Meaning.{Sem, Rel, Den, Relates, Domain}
 use Rattle.model.specs.Packets.{more, Packet}
 use Rattle.model.specs.Programs.{less, ret, ask}
@@ -22,7 +22,7 @@ use Rattle.model.proofs.FieldOrder.{rank-ranked, ranked-is}
 use Rattle.model.proofs.FirstInputs.{From, first-input-does}
 use Rattle.model.proofs.FirstPair.{not-before, rank-first}
 use Rattle.model.proofs.Pairs.{relates-ext, block, relates-x00, relates-x01, relates-x10, relates-x11}
-use Rattle.model.proofs.Ranks.{LeastRank, none-least, rank-more}
+use Rattle.model.proofs.Ranks.{none-least, rank-more}
 use Rattle.model.proofs.Rules.{Does, den-ext, den-child, held-within, ret-does, ask-does, look-does, bind-does}
 use Rattle.model.proofs.YesNo.{Some2, some2-split}
 

@@ -11,6 +11,7 @@ use native.Mathlib.Nat.{pow-suc}
 use lib.Dec.{eqb, ltb, T, eqb→eq, ltb→lt, nltb→le}
 use Rattle.model.specs.FirstInputs.{from-halves, first-member-op, first-member, first-input-short, lesser, either-output, if-path}
 use Rattle.model.specs.FirstInputs.{first-input-kids, first-input-node, first-input}
+use Rattle.model.specs.FirstPair.{LeastRank}
 use Rattle.model.specs.Meaning.{Sem, Rel, Den, Relates, Domain}
 use Rattle.model.specs.Programs.{isEmpty, isUniversal, same, less, has, Prog, ret, bind, _>>=_, ran, run}
 use Rattle.model.specs.Images.{has-path}
@@ -21,7 +22,7 @@ use Rattle.model.proofs.Bools.{by-test}
 use Rattle.model.proofs.Extends.{ext-refl, ext-trans}
 use Rattle.model.proofs.Images.{some-split}
 use Rattle.model.proofs.Pairs.{relates-ext, block, relates-x00, relates-x01, relates-x10, relates-x11, rel-empty, rel-full}
-use Rattle.model.proofs.Ranks.{LeastRank, least-none, least-zero, least-iff, least-either-zero, least-either, least-first-half}
+use Rattle.model.proofs.Ranks.{least-none, least-zero, least-iff, least-either-zero, least-either, least-first-half}
 use Rattle.model.proofs.Ranks.{least-second-half}
 use Rattle.model.proofs.Recursion.{Sound1, op1-does}
 use Rattle.model.proofs.Rules.{Does, den-ext, den-child, held-within, ret-does, ask-does, look-does, post-does, bind-does}

@@ -3,21 +3,21 @@ use mathlib.Core.Path.{_≡_, refl, sym, ap, _∙_, subst}
 use mathlib.Core.Logic.{_↔_}
 use mathlib.Core.List.{List, [], _∷_, _++_}
 use mathlib.Core.Option.{Option, none, some}
-use mathlib.Core.Bool.{Bool, true, false, _&&_}
-use Prim.Native.Nat.{ℕ, zero, suc, _+_, _<_, _≤_}
+use mathlib.Core.Bool.{Bool, true, false}
+use Prim.Native.Nat.{ℕ, zero, suc, _+_, _^_, _<_, _≤_}
 use native.Mathlib.Omega.{arith}
 use borrow.Author.Tests.{eq-eqb, ltb-false, le-ltb}
 use lib.Dec.{eqb, ltb, eqb→eq}
 use lib.ListN.{take, drop, take-append-drop}
 use lib.Seq.{take-at, drop-at}
 use Rattle.model.specs.FieldOrder.{before?, rank, ranked}
-use Rattle.model.specs.FirstPair.{begun-with, or-if-none, first-packet, first-pair, through?, Through, First, FirstPair}
+use Rattle.model.specs.FirstPair.{begun-with, or-if-none, first-packet, first-pair, through?, Through, First, LeastRank, FirstPair}
 use Rattle.model.specs.Meaning.{Rel, Some}
 use Rattle.model.specs.Packets.{Packet, digits, walk}
 use Rattle.model.specs.Packets as packets
 use Rattle.model.specs.Store.{set, rel, Store, pick}
-use Rattle.model.proofs.Bools.{by-test, no-true, one-iff, on-bits}
-use Rattle.model.proofs.FieldOrder.{packet-length, ranked-rank, before-rank}
+use Rattle.model.proofs.Bools.{by-test, no-true, one-iff, and-iff, on-bits}
+use Rattle.model.proofs.FieldOrder.{packet-length, ranked-is, rank-below, ranked-rank, rank-ranked, before-rank}
 
 -- ORDER by ranks
 module _ {l : ℕ} {p q : List ℕ} (P : Packet l p) (Q : Packet l q) where
@@ -31,7 +31,7 @@ module _ {l : ℕ} {p q : List ℕ} (P : Packet l p) (Q : Packet l q) where
   rank-once e = sym (ranked-rank P) ∙ ap (ranked l) e ∙ ranked-rank Q
 
 -- THE FIRST PACKET
-abbrev Finds : ℕ → (List ℕ → Bool) → Option (List ℕ) → Type 0
+abbrev pub Finds : ℕ → (List ℕ → Bool) → Option (List ℕ) → Type 0
 Finds l t none = (x : List ℕ) → Packet l x → t x ≡ false
 Finds l t (some x) = First l (λ x. t x ≡ true) x
 
@@ -103,6 +103,18 @@ first-none l t n = go (first-packet l t) (finds l t)
     go : (o : Option (List ℕ)) → Finds l t o → o ≡ none
     go none A = refl
     go (some x) A = absurd (n x (A .packet) (A .inside))
+
+-- by the rank of what is first
+module _ {l : ℕ} {t : List ℕ → Bool} {r : ℕ} (A : LeastRank l (λ x. t x ≡ true) r) where
+  pub first-by-rank : r < 2 ^ l → first-packet l t ≡ some (ranked l r)
+  first-by-rank i = first-is l t (ranked l r) (record {
+    packet = ranked-is l r;
+    inside = A .here i;
+    least = λ y Y e. not-before Y (ranked-is l r) (rw (rank-ranked l r i) (A .first y Y e));
+  })
+
+  pub none-by-rank : 2 ^ l ≤ r → first-packet l t ≡ none
+  none-by-rank i = first-none l t (λ x X e. let z : ⊥ = omega (arith, A .first x X e, rank-below X) in z)
 
 -- PAIRS, as packets of twice as many fields
 append-packet : {l m : ℕ} {x y : List ℕ} (n : ℕ) → n ≡ l + m → Packet l x → Packet m y → Packet n (x ++ y)
@@ -210,10 +222,6 @@ pair-once {l} {R} {x} {y} {x′} {y′} A B =
     (e, rank-once (A .output) (B .output) (omega arith))
 
 -- the test of a pair is passed by the pairs that it is about
-and-iff : (a b : Bool) {X Y : Type 0} → (a ≡ true) ↔ X → (b ≡ true) ↔ Y → ((a && b) ≡ true) ↔ (X × Y)
-and-iff true b e f = (λ g. (e .0 refl, f .0 g), λ g. f .1 (g .1))
-and-iff false b e f = (λ g. absurd (no-true refl g), λ g. absurd (no-true refl (e .1 (g .0))))
-
 pub through-iff : (S : Store) (p a q : ℕ) (x y : List ℕ) → (through? S p a q x y ≡ true) ↔ Through S p a q x y
 through-iff S p a q x y =
     let e = and-iff (eqb (walk set S p x) 1) _ (one-iff _) (and-iff (eqb (walk rel S a (digits x y)) 1) (eqb (walk set S q y) 1) (one-iff _) (one-iff _)) in

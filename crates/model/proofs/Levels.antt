@@ -63,13 +63,17 @@ held-at {S = S} K h F t = elim (small h) [
 pub held-level : {k : ℕ} {S : Store} (K : Kind) (h : ℕ) → WellFormed k S → T (is-held K S h) → Held K S (level-of k K S h) h
 held-level {k} {S} K h F t = let r = held-at K h F t in subst (λ l. Held K S l h) (sym (level-is K S k (r .0) h (r .1) (r .2))) (r .2)
 
+-- and a handle that is held at some level is so by the test
+pub held-tested : (K : Kind) (S : Store) (l h : ℕ) → Held K S l h → T (is-held K S h)
+held-tested K S zero h A = elim (small h) [ inl b ↦ rw (b .0) tt | inr b ↦ absurd (let z : ⊥ = omega (arith, b .1) in z) ]
+held-tested K S (suc l) h A =
+    elim (small h) [ inl b ↦ absurd (omega (arith, b .1, A .big)) | inr b ↦ rw (b .0) (lt→ltb (index K h) (length (nodes K S)) (A .there)) ]
+
 -- no handle is held above level k
 pub held-most : {k : ℕ} {S : Store} (K : Kind) (l h : ℕ) → WellFormed k S → Held K S l h → l ≤ k
 held-most K zero h F A = zero-le
 held-most {S = S} K (suc l) h F A =
-    let t : T (is-held K S h)
-    = elim (small h) [ inl b ↦ absurd (omega (arith, b .1, A .big)) | inr b ↦ rw (b .0) (lt→ltb (index K h) (length (nodes K S)) (A .there)) ] in
-    let r = held-at K h F t in
+    let r = held-at K h F (held-tested K S (suc l) h A) in
     omega (arith, r .1, held-once K S (suc l) (r .0) h A (r .2))
 
 -- two handles with one test passed are one

@@ -32,4 +32,5 @@ pub mod Ranks
 pub mod FirstPair
 pub mod FirstInputs
 pub mod FirstDigits
+pub mod Members
 pub mod Policies

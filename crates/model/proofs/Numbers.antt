@@ -12,7 +12,7 @@ unfolding packet
 packet-is zero n = none
 packet-is (suc l) n = more _ (bit-below _) (packet-is l _)
 
--- A packet's number is its place in field order, since field 0 is the most significant bit. Only the inverse laws below go by this: with fields
+-- A packet's number is its place in field order, since field 0 is the most significant bit. Only the laws below go by this: with fields
 -- numbered from the other end it does not hold, and all that is about order goes by `rank` and `ranked`.
 pub packet-ranked : (l n : ℕ) → packet l n ≡ ranked l n
 unfolding packet ranked
@@ -22,6 +22,13 @@ pub number-rank : (p : List ℕ) → number p ≡ rank p
 unfolding number rank
 number-rank [] = refl
 number-rank (b ∷ p) = omega (arith, number-rank p)
+
+-- from a number to a place in field order, and back
+pub rank-packet : (l n : ℕ) → n < 2 ^ l → rank (packet l n) ≡ n
+rank-packet l n h = rw packet-ranked (rank-ranked l n h)
+
+pub number-ranked : (l n : ℕ) → n < 2 ^ l → number (ranked l n) ≡ n
+number-ranked l n h = number-rank (ranked l n) ∙ rank-ranked l n h
 
 -- `packet` and `number` are inverse
 pub number-below : {l : ℕ} {p : List ℕ} → Packet l p → number p < 2 ^ l

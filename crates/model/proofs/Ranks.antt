@@ -7,16 +7,12 @@ use native.Mathlib.Omega.{arith}
 use native.Mathlib.Decide.{decLt}
 use native.Mathlib.Nat.{div-eq-of-lt, mul-add-div-right, one-mul, pow-suc, zero-mul}
 use Rattle.model.specs.FieldOrder.{rank, ranked}
+use Rattle.model.specs.FirstPair.{LeastRank}
 use Rattle.model.specs.Meaning.{Sem}
 use Rattle.model.specs.Packets.{more, Packet}
 use Rattle.model.proofs.Bools.{on-bits}
 use Rattle.model.proofs.FieldOrder.{packet-length, ranked-is, ranked-add, rank-below}
 use Rattle.model.proofs.Powers.{pow-pos}
-
-pub record LeastRank (l : ℕ) (P : Sem) (h : ℕ) : Type 0 where
-  pub most : h ≤ 2 ^ l
-  pub here : h < 2 ^ l → P (ranked l h)
-  pub first : (x : List ℕ) → Packet l x → P x → h ≤ rank x
 
 module _ {l : ℕ} where
   pub least-none : {P : Sem} → ((x : List ℕ) → Packet l x → ¬ P x) → LeastRank l P (2 ^ l)

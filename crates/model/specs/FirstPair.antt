@@ -4,12 +4,12 @@ use mathlib.Core.Path.{_≡_}
 use mathlib.Core.List.{List, [], _∷_}
 use mathlib.Core.Option.{Option, none, some}
 use mathlib.Core.Bool.{Bool, false, _&&_}
-use Prim.Native.Nat.{ℕ, zero, suc, _+_}
+use Prim.Native.Nat.{ℕ, zero, suc, _+_, _^_, _<_, _≤_}
 use lib.Dec.{eqb}
 use lib.ListN.{take, drop}
 use Rattle.model.specs.Store.{set, rel, Store, pick}
 use Rattle.model.specs.Packets.{Packet, digits, walk, contains, relates}
-use Rattle.model.specs.FieldOrder.{before?}
+use Rattle.model.specs.FieldOrder.{before?, rank, ranked}
 use Rattle.model.specs.Meaning.{Sem, Rel}
 
 -- the packet with the bit b before its fields, if there is one
@@ -46,6 +46,12 @@ pub record First (l : ℕ) (P : Sem) (x : List ℕ) : Type 0 where
   pub packet : Packet l x
   pub inside : P x
   pub least : (y : List ℕ) → Packet l y → P y → before? y x ≡ false
+
+-- h is the rank of what is first in P, or 2^l where nothing is
+pub record LeastRank (l : ℕ) (P : Sem) (h : ℕ) : Type 0 where
+  pub most : h ≤ 2 ^ l
+  pub here : h < 2 ^ l → P (ranked l h)
+  pub first : (x : List ℕ) → Packet l x → P x → h ≤ rank x
 
 -- x and y are the first pair in R: the input decides, and the output where the inputs are equal
 pub record FirstPair (l : ℕ) (R : Rel) (x y : List ℕ) : Type 0 where

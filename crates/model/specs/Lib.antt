@@ -13,6 +13,7 @@ pub mod WellFormed
 pub mod FieldsFromIdentity
 pub mod Meaning
 pub mod FirstPair
+pub mod Members
 pub mod Places
 pub mod Safety
 pub mod Policies

@@ -1,1 +1,1 @@
-pub mod Children
+pub mod Lent

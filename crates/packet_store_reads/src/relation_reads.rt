@@ -4,7 +4,7 @@ ghost use Rattle.store.specs.Calls.{relation-read, step};
 ghost use Rattle.store.specs.declared.relation_reads.RelationRead.the-variants.{Get, IsZero, Relates};
 ghost use Rattle.packing.specs.Packed.{filled-relation};
 ghost use Rattle.packing.specs.Returns.{Answers};
-ghost use Rattle.packet_store_reads.specs.Children.{AnswersChildren};
+ghost use Rattle.packet_store_reads.specs.Lent.{AnswersLent};
 use store::relation_reads::RelationRead;
 
 // Any of these calls, its answer packed.
@@ -24,7 +24,7 @@ pub extern "C" fn packet_store_relation_get(
     a: u32,
     children: &mut [u32; 4],
 ) -> u64
-    ensures { λ r. ⌜ AnswersChildren filled-relation (relation-read (Get a)) (memories (now (relations .entry)) (now (sets .entry)))
+    ensures { λ r. ⌜ AnswersLent filled-relation (relation-read (Get a)) (memories (now (relations .entry)) (now (sets .entry)))
         (now (work .entry)) (now (work .exit)) (now (children .entry)) (now (children .exit)) r ⌝ }
 {
     let r = store::relation_reads::relation_read(relations, sets, work, RelationRead::Get(a));

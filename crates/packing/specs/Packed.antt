@@ -7,7 +7,7 @@ use Rattle.packing.specs.declared.AddedReply.{AddedReply}
 use Rattle.packing.specs.declared.PairReply.{PairReply}
 use Rattle.call_rules.specs.declared.added.NodeCounts.{NodeCounts}
 use Rattle.call_rules.specs.declared.Answer.{Answer}
-use Rattle.call_rules.specs.declared.Answer.the-variants.{Handle, Truth, SetNode, RelationNode, Declined, Pair, Nothing}
+use Rattle.call_rules.specs.declared.Answer.the-variants.{Handle, Truth, SetNode, RelationNode, Declined, Pair, Nothing, Member}
 
 -- the refusal's number in the high half, the first value in the low half, 0 where there is none
 abbrev pub halves : ℕ → List ℕ → ℕ
@@ -32,6 +32,7 @@ pair-in (RelationNode x00 x01 x10 x11) = (0, 0)
 pair-in (Declined r) = (0, 0)
 pair-in (Pair x y) = (x, y)
 pair-in Nothing = (0, 0)
+pair-in (Member x) = (0, 0)
 
 abbrev pub packed-pair : Answer → PairReply
 packed-pair a = record { answer = packed a; input = pair-in a .0; output = pair-in a .1 }
@@ -45,6 +46,7 @@ filled-set (RelationNode x00 x01 x10 x11) c = c
 filled-set (Declined r) c = c
 filled-set (Pair x y) c = c
 filled-set Nothing c = c
+filled-set (Member x) c = c
 
 -- the four numbers lent for a relation's children, likewise
 abbrev pub filled-relation : Answer → List ℕ → List ℕ
@@ -55,3 +57,4 @@ filled-relation (RelationNode x00 x01 x10 x11) c = put (put (put (put c 0 x00) 1
 filled-relation (Declined r) c = c
 filled-relation (Pair x y) c = c
 filled-relation Nothing c = c
+filled-relation (Member x) c = c

@@ -14,6 +14,7 @@ pub fn pack(a: call_rules::Answer) -> u64
         call_rules::Answer::Declined(r) => call_rules::number_of(r) as u64 * 0x1_0000_0000,
         call_rules::Answer::Pair(_, _) => 1,
         call_rules::Answer::Nothing => 0,
+        call_rules::Answer::Member(_) => 1,
     }
 }
 
@@ -87,6 +88,7 @@ pub fn fill_set(a: call_rules::Answer, children: &mut [u32; 2])
         call_rules::Answer::Declined(_) => {}
         call_rules::Answer::Pair(_, _) => {}
         call_rules::Answer::Nothing => {}
+        call_rules::Answer::Member(_) => {}
     }
 }
 
@@ -107,5 +109,6 @@ pub fn fill_relation(a: call_rules::Answer, children: &mut [u32; 4])
         call_rules::Answer::Declined(_) => {}
         call_rules::Answer::Pair(_, _) => {}
         call_rules::Answer::Nothing => {}
+        call_rules::Answer::Member(_) => {}
     }
 }

@@ -49,6 +49,11 @@ fn show(a: call_rules::Answer) -> Shown
             count: 0,
             x: [0, 0, 0, 0],
         },
+        call_rules::Answer::Member(x) => Shown {
+            letter: b'm',
+            count: 1,
+            x: [x, 0, 0, 0],
+        },
     }
 }
 

@@ -81,6 +81,14 @@ fn set_read(name: &[u8], row: Row) -> Call {
     if is(name, b"intersects", row, 2) {
         return Call::ReadsSet(SetRead::Intersects(x[0], x[1]));
     }
+    if is(name, b"set.next", row, 4) {
+        return Call::ReadsSet(SetRead::Next(store::set_reads::Cursor {
+            handle: x[0],
+            last: x[1],
+            given: x[2],
+            ended: x[3],
+        }));
+    }
     Call::Nothing
 }
 

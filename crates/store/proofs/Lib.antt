@@ -5,3 +5,4 @@ pub mod SetSteps
 pub mod RelationSteps
 pub mod ImageSteps
 pub mod FirstPaths
+pub mod NextMember

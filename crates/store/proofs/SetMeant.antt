@@ -23,7 +23,7 @@ use Rattle.call_rules.specs.declared.Check.the-variants.{Level}
 use Rattle.store.specs.declared.set_calls.SetCall.{SetCall}
 use Rattle.store.specs.declared.set_calls.SetCall.the-variants.{Mk, Zero, One, Union, Intersect, Xor, Difference, Test, Ifelse}
 use Rattle.store.specs.declared.set_reads.SetRead.{SetRead}
-use Rattle.store.specs.declared.set_reads.SetRead.the-variants.{Get, Complement, IsZero, Intersects}
+use Rattle.store.specs.declared.set_reads.SetRead.the-variants.{Get, Complement, IsZero, Intersects, Next}
 use Rattle.call_rules.proofs.Declining.{guard-passed, also-passed, one-passed, two-passed, less, above}
 
 -- CALLS THAT MAY ADD SETS
@@ -80,3 +80,4 @@ module _ {k : ℕ} {S : Store} {l : ℕ} (F : WellFormed k S) where
   set-read-safe (IsZero a) e = is-zero-does set l a F (own set S l a (one-passed F set a e .held)) .safe
   set-read-safe (Intersects a b) e =
       let t = two-passed F set a b e in intersects-does l a b F (t .0 .low) (own set S l a (t .0 .held)) (own set S l b (t .1 .held)) .safe
+  set-read-safe (Next c) e = let q = also-passed _ _ _ e in (one-passed F set (c .handle) (q .0) .held, q .1)

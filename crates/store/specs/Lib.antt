@@ -1,3 +1,4 @@
+pub mod Cursors
 pub mod SetCalls
 pub mod RelationCalls
 pub mod ImageCalls

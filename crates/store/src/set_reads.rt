@@ -1,5 +1,6 @@
 // The calls on sets that add nothing.
 ghost use mathlib.Core.Path.{_≡_};
+ghost use Prim.Native.Nat.{ℕ, _≤_};
 ghost use Rattle.model.specs.Store.{set};
 ghost use Rattle.store_check.specs.Memory.{memories};
 ghost use Rattle.call_rules.specs.Outcome.{outcome};
@@ -7,19 +8,32 @@ ghost use Rattle.call_rules.specs.Promise.{Meets};
 ghost use Rattle.store.specs.Calls.{set-read, step};
 ghost use Rattle.store.specs.SetCalls.{set-read-declines, set-read-answer};
 ghost use Rattle.call_rules.specs.Checking.{Checks, Answered, CheckedStore};
-ghost use Rattle.store.specs.SetChecking.{SetReadSafe};
+ghost use Rattle.store.specs.SetChecking.{SetReadSafe, from-rank};
+ghost use Rattle.store.specs.declared.set_reads.SetRead.the-variants.{Next};
 use store_check::head::*;
 
-// A call with its arguments, after sp.rs.
+// The place that a caller has reached in a set's members: the set's handle, the last member given, whether any was given and whether the end was met.
+// Of the two marks 0 is no and any other number yes.
+#[repr(C)]
+pub struct Cursor {
+    pub handle: u32,
+    pub last: u32,
+    pub given: u32,
+    pub ended: u32,
+}
+
+// A call with its arguments, after sp.rs; `Next` is 02's.
 pub enum SetRead {
     Get(u32),
     Complement(u32),
     IsZero(u32),
     Intersects(u32, u32),
+    Next(Cursor),
 }
 
 // The level of a call's operands on the first n nodes.
 fn check(nodes: &[u32], n: usize, k: u32, call: SetRead) -> call_rules::Check
+    requires { ⌜ k ≤ 32 ⌝ }
     ensures { λ r. ⌜ Checks set (now (nodes .entry)) n k (λ S. set-read-declines k call S) r ⌝ }
 {
     match call {
@@ -27,11 +41,40 @@ fn check(nodes: &[u32], n: usize, k: u32, call: SetRead) -> call_rules::Check
         SetRead::Complement(a) => call_rules::operands::one(nodes, 2, n, k, a),
         SetRead::IsZero(a) => call_rules::operands::one(nodes, 2, n, k, a),
         SetRead::Intersects(a, b) => call_rules::operands::two(nodes, 2, n, k, a, b),
+        SetRead::Next(c) => call_rules::operands::given(nodes, n, k, c.handle, c.given, c.last),
     }
+}
+
+// The rank from which on members are to come.
+fn from(c: Cursor) -> u64
+    ensures { λ r. ⌜ r ≡ from-rank c ⌝ }
+{
+    if c.given == 0 {
+        return 0;
+    }
+    c.last as u64 + 1
+}
+
+// The next member of a set of this level.
+fn next_member(nodes: &[u32], work: &[u32], level: u8, c: Cursor) -> call_rules::Answer
+    requires { ⌜ level ≤ 32 ⌝ }
+    ensures { λ r. ⌜ ((n : ℕ) → Answered set (now (nodes .entry)) (now (work .entry)) n (λ S. SetReadSafe S level (Next c))
+        (λ S. set-read-answer S level (Next c)) r) ⌝ }
+{
+    if c.ended != 0 {
+        return call_rules::Answer::Nothing;
+    }
+    let r = first_paths::members::first_from(nodes, work, level, c.handle, from(c));
+    if r < memory::power(level) {
+        let x = r as u32;
+        return call_rules::Answer::Member(x);
+    }
+    call_rules::Answer::Nothing
 }
 
 // The answer of a call whose operands are of this level, among n nodes.
 fn answer(nodes: &[u32], work: &mut [u32], n: usize, level: u8, call: SetRead) -> call_rules::Answer
+    requires { ⌜ level ≤ 32 ⌝ }
     ensures { λ r. ⌜ Answered set (now (nodes .entry)) (now (work .entry)) n (λ S. SetReadSafe S level call) (λ S. set-read-answer S level call) r ⌝ }
 {
     let s = memory::RunState {
@@ -53,6 +96,7 @@ fn answer(nodes: &[u32], work: &mut [u32], n: usize, level: u8, call: SetRead) -
             let r = sets::intersects(nodes, work, s, level, a, b);
             call_rules::Answer::Truth(r.h == 1)
         }
+        SetRead::Next(c) => next_member(nodes, work, level, c),
     }
 }
 

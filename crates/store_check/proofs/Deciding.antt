@@ -5,7 +5,7 @@ use mathlib.Core.Bool.{Bool, true, false, _&&_}
 use Prim.Native.Nat.{ℕ, _<_, _≤_}
 use lib.Dec.{eqb, ltb, leb, T, eqb→eq, eqb-refl, ltb→lt, lt→ltb, leb→le, le→leb}
 use Rattle.model.specs.Programs.{all-below}
-use Rattle.model.proofs.Bools.{and-T, both-T}
+use Rattle.model.proofs.Bools.{and-T, both-T, T-true}
 use Rattle.model.proofs.Tests.{all-below-T, all-below-all}
 
 pub record Decided (b : Bool) (P : Type 0) : Type 0 where
@@ -36,11 +36,7 @@ decided-as f g s = record { iff = (λ t. f (s .iff .0 t), λ q. s .iff .1 (g q))
 
 -- a test that holds, and one that does not
 pub decided-true : {b : Bool} {P : Type 0} → Decided b P → P → b ≡ true
-decided-true {b} s p = go b (s .iff .1 p)
-  where
-    go : (b : Bool) → T b → b ≡ true
-    go true t = refl
-    go false t = absurd t
+decided-true {b} s p = T-true b (s .iff .1 p)
 
 pub decided-false : {b : Bool} {P : Type 0} → Decided b P → (P → ⊥) → b ≡ false
 decided-false {b} s n = go b (λ t. n (s .iff .0 t))

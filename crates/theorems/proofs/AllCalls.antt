@@ -1,4 +1,4 @@
--- The law for one call, of all 44: on memories that match a plain store it gives the same answer and adds as many nodes, they match again,
+-- The law for one call, of all 45: on memories that match a plain store it gives the same answer and adds as many nodes, they match again,
 -- and handles last unless `new` is accepted. From the law for the store's calls, and for a text from what its program leaves.
 use mathlib.Core.Path.{_≡_}
 use mathlib.Core.List.{List}

@@ -14,7 +14,7 @@ use Rattle.store_check.specs.Valid.{store?, IsStore}
 use Rattle.store_check.proofs.Decide.{store-says}
 use Rattle.call_rules.specs.OnMemories.{set-places, rel-places, new-declines, new-step}
 use Rattle.call_rules.specs.declared.Answer.{Answer}
-use Rattle.call_rules.specs.declared.Answer.the-variants.{Handle, Truth, SetNode, RelationNode, Declined, Pair, Nothing}
+use Rattle.call_rules.specs.declared.Answer.the-variants.{Handle, Truth, SetNode, RelationNode, Declined, Pair, Nothing, Member}
 use Rattle.call_rules.proofs.Outcomes.{not-store}
 use Rattle.policies.specs.Outcome.{refused, text-verdict, policy-step}
 use Rattle.store.specs.Calls.{new-store, set-call, set-read, relation-call, relation-read, image-call, filter-call, path-read, step}
@@ -40,6 +40,7 @@ is-refused (RelationNode x00 x01 x10 x11) f = absurd (no-true f refl)
 is-refused (Declined r) f = record { why = r; is = refl }
 is-refused (Pair x y) f = absurd (no-true f refl)
 is-refused Nothing f = absurd (no-true f refl)
+is-refused (Member x) f = absurd (no-true f refl)
 
 module _ (M : Memories) where
   -- memories that are no store, unless a `new` begins one there

@@ -15,7 +15,7 @@ use Rattle.store.specs.RelationCalls.{relation-declines, relation-program}
 use Rattle.store.specs.SetCalls.{set-declines, set-program}
 use Rattle.store_check.specs.Valid.{IsStore}
 use Rattle.call_rules.specs.declared.Answer.{Answer}
-use Rattle.call_rules.specs.declared.Answer.the-variants.{Handle, Truth, SetNode, RelationNode, Declined, Pair, Nothing}
+use Rattle.call_rules.specs.declared.Answer.the-variants.{Handle, Truth, SetNode, RelationNode, Declined, Pair, Nothing, Member}
 use Rattle.call_rules.specs.declared.Check.{Check}
 use Rattle.call_rules.specs.declared.Check.the-variants.{Level, No}
 use Rattle.call_rules.specs.declared.Refusal.the-variants.{UsedUp}
@@ -37,6 +37,7 @@ handle (RelationNode x y z u) = 0
 handle (Declined r) = 0
 handle (Pair x y) = 0
 handle Nothing = 0
+handle (Member x) = 0
 
 abbrev Given : Answer → Type 0
 Given (Handle h) = Unit {0}
@@ -46,6 +47,7 @@ Given (RelationNode x y z u) = ⊥
 Given (Declined r) = ⊥
 Given (Pair x y) = ⊥
 Given Nothing = ⊥
+Given (Member x) = ⊥
 
 -- a call that is not declined and runs a program, where the answer is a handle: the meaning of the program's result
 module _ (check : ℕ → Store → Check) (program : ℕ → ℕ → Prog) (M : Memories) (s : IsStore M) (Q : Store → ℕ → Type 0) (h : ℕ)

@@ -24,5 +24,7 @@ pub mod AnyMemories
 pub mod Added
 pub mod MkAdded
 pub mod WrongTexts
+pub mod MembersInTurn
+pub mod WrongMembers
 pub mod Worked
 pub mod WrongCounts

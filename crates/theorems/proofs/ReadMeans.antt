@@ -1,20 +1,27 @@
 -- What the answer of a public call that adds nothing says, and that it leaves both memories: the facts to cite, from its verdict.
 use mathlib.Core.Path.{_≡_, refl, sym, subst}
-use mathlib.Core.Logic.{_↔_, Iff·trans}
+use mathlib.Core.Logic.{_⊎_, inl, inr, _↔_, Iff·trans}
 use mathlib.Core.List.{List}
-use mathlib.Core.Bool.{true}
+use mathlib.Core.Option.{Option, none, some}
+use mathlib.Core.Bool.{true, _||_}
 use Prim.Native.Nat.{ℕ, suc}
 use native.Mathlib.Omega.{arith}
-use lib.Dec.{ltb, eqb, T}
+use borrow.Author.Tests.{eq-eqb}
+use lib.Dec.{ltb, eqb, T, eqb→eq}
+use Rattle.model.specs.FieldOrder.{before?}
+use Rattle.model.specs.FirstPair.{first-packet, First}
 use Rattle.model.specs.Meaning.{Den, Some}
+use Rattle.model.specs.Members.{member?}
 use Rattle.model.specs.Operations.{complement, is-zero}
 use Rattle.model.specs.Sets.{intersects}
 use Rattle.model.specs.Packets.{Digits, Packet, packet, digits, walk, contains, relates}
 use Rattle.model.specs.Programs.{run}
 use Rattle.model.specs.Recursion.{x0, x1, x00, x01, x10, x11}
-use Rattle.model.specs.Store.{set, rel, Store, signed, get}
+use Rattle.model.specs.Store.{set, rel, Store, pick, signed, get}
 use Rattle.model.specs.WellFormed.{Held, WellFormed}
-use Rattle.model.proofs.Bools.{one-iff}
+use Rattle.model.proofs.Bools.{by-test, no-true, and-iff, one-iff}
+use Rattle.model.proofs.FirstPair.{Finds, finds}
+use Rattle.model.proofs.Numbers.{packet-number, number-below}
 use Rattle.model.proofs.Pairs.{relates-den, relates-own, relates-iff, digits-of, relates-x00, relates-x01, relates-x10, relates-x11}
 use Rattle.model.proofs.Pointwise.{complement-does}
 use Rattle.model.proofs.Rules.{own, den-child}
@@ -23,8 +30,9 @@ use Rattle.store.specs.Calls.{set-read, relation-read, step}
 use Rattle.call_rules.specs.OnMemories.{on-store}
 use Rattle.store_check.specs.Memory.{Memories, fields, decode}
 use Rattle.call_rules.specs.Outcome.{Verdict, gives, runs, unless-declined, finishes}
-use Rattle.theorems.specs.ReadMeanings.{SetChildren, RelationChildren, set-read-meaning, relation-read-meaning}
+use Rattle.theorems.specs.ReadMeanings.{SetChildren, RelationChildren, the-first, ToCome, set-read-meaning, relation-read-meaning}
 use Rattle.store.specs.RelationCalls.{relation-read-declines, relation-read-answer, relation-read-verdict}
+use Rattle.store.specs.Cursors.{to-come?, next-member, as-member}
 use Rattle.store.specs.SetCalls.{set-read-declines, set-read-answer, set-read-verdict}
 use Rattle.store_check.specs.Valid.{IsStore}
 use Rattle.call_rules.specs.declared.Answer.{Answer}
@@ -34,6 +42,7 @@ use Rattle.call_rules.specs.declared.Check.the-variants.{Level, No}
 use Rattle.call_rules.specs.declared.Refusal.{Refusal}
 use Rattle.store.specs.declared.relation_reads.RelationRead.{RelationRead}
 use Rattle.store.specs.declared.relation_reads.RelationRead.the-variants as R
+use Rattle.store.specs.declared.set_reads.Cursor.{Cursor}
 use Rattle.store.specs.declared.set_reads.SetRead.{SetRead}
 use Rattle.store.specs.declared.set_reads.SetRead.the-variants as T
 use Rattle.call_rules.proofs.Declining.{also-passed, one-passed, two-passed, above}
@@ -92,6 +101,30 @@ relation-children S l a e A =
       on-11 = relates-x11 B;
     }
 
+-- the next member is the first that is to come
+module _ (S : Store) (l : ℕ) (c : Cursor) where
+  to-come-iff : (p : List ℕ) → (to-come? S l c p ≡ true) ↔ (contains S (c .handle) p × ((c .given ≡ 0) ⊎ (before? (packet l (c .last)) p ≡ true)))
+  to-come-iff p = and-iff (member? S (c .handle) p) _ (one-iff _)
+      (by-test (λ b. eqb (c .given) 0 ≡ b → ((b || before? (packet l (c .last)) p) ≡ true) ↔ ((c .given ≡ 0) ⊎ (before? (packet l (c .last)) p ≡ true)))
+      (eqb (c .given) 0) (λ _ e. (λ _. inl (eqb→eq (c .given) 0 (subst T (sym e) tt)), λ _. refl))
+      (λ _ e. (λ f. inr f, elim [ inl g ↦ absurd (no-true e (eq-eqb (c .given) 0 g)) | inr f ↦ f ])) refl)
+
+  found : (o : Option (List ℕ)) → Finds l (to-come? S l c) o → c .ended ≡ 0 → the-first l (ToCome S l c) (as-member o)
+  found none n e = λ s. no-true (n (s .0) (s .1)) (to-come-iff (s .0) .1 (s .2 .1, s .2 .2))
+  found (some p) A e = (
+    number-below (A .packet),
+    subst (First l (ToCome S l c)) (sym (packet-number (A .packet))) (record {
+      packet = A .packet;
+      inside = let d = to-come-iff p .0 (A .inside) in (e, d .0, d .1);
+      least = λ q Q s. A .least q Q (to-come-iff q .1 (s .1, s .2));
+    }),
+  )
+
+  first-to-come : the-first l (ToCome S l c) (as-member (next-member S l c))
+  first-to-come = by-test (λ b. eqb (c .ended) 0 ≡ b → the-first l (ToCome S l c) (as-member (pick b (first-packet l (to-come? S l c)) none)))
+      (eqb (c .ended) 0) (λ _ e. found (first-packet l (to-come? S l c)) (finds l (to-come? S l c)) (eqb→eq (c .ended) 0 (subst T (sym e) tt)))
+      (λ _ e s. no-true e (eq-eqb (c .ended) 0 (s .2 .0))) refl
+
 module _ {k : ℕ} {S : Store} (F : WellFormed k S) where
   set-read-refused : (c : SetRead) (r : Refusal) → set-read-meaning k c S (Declined r)
   unfolding set-read-meaning
@@ -99,6 +132,7 @@ module _ {k : ℕ} {S : Store} (F : WellFormed k S) where
   set-read-refused (T.Complement a) r = tt
   set-read-refused (T.IsZero a) r = tt
   set-read-refused (T.Intersects a b) r = tt
+  set-read-refused (T.Next c) r = tt
 
   relation-read-refused : (c : RelationRead) (r : Refusal) → relation-read-meaning k c S (Declined r)
   unfolding relation-read-meaning
@@ -123,6 +157,9 @@ module _ {k : ℕ} {S : Store} (F : WellFormed k S) where
       let t = two-passed F set a b e in
       subst (λ j. (eqb (run (intersects l a b) S .value) 1 ≡ true) ↔ Some j (λ p. contains S a p × contains S b p)) (sym (t .0 .level))
       (Iff·trans (one-iff _) (intersects-does l a b F (t .0 .low) (own set S l a (t .0 .held)) (own set S l b (t .1 .held)) .after .post .means))
+  set-read-passes (T.Next c) l e =
+      let t = one-passed F set (c .handle) (also-passed _ _ _ e .0) in
+      subst (λ j. the-first j (ToCome S j c) (as-member (next-member S l c))) (sym (t .level)) (first-to-come S l c)
 
   relation-read-passes : (c : RelationRead) (l : ℕ) → relation-read-declines k c S ≡ Level l → relation-read-meaning k c S (relation-read-answer S l c)
   unfolding relation-read-meaning

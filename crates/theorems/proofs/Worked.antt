@@ -11,6 +11,7 @@ use Rattle.memory.specs.Rows.{places-of}
 use Rattle.model.specs.Images.{fwd, bwd, ifwd, ibwd, diagonal, push, pull, has-image, has-path, has-path-node, blank, new}
 use Rattle.model.specs.Operations.{constant, identity-at-depth, complement, union, intersect, xor, difference, raise, each-field, test, assign, is-zero}
 use Rattle.model.specs.Packets.{packet, number}
+use Rattle.model.specs.FieldOrder.{before?}
 use Rattle.model.specs.FirstPair.{first-packet, first-pair}
 use Rattle.model.specs.Policies.{policy-program}
 use Rattle.model.specs.Programs.{agrees, run}
@@ -41,7 +42,7 @@ use Rattle.theorems.specs.AllCalls.{AnyCall, call, answered, any-step, p
 use Rattle.theorems.specs.Lists.{in-turn, plain-steps}
 use Rattle.theorems.specs.PlainStore.{asked, on-lists, plain-step, plain-policy-step, begun}
 use Rattle.theorems.specs.Worked.{Expected, yields, refuses, RowsRight, TableRight, one-field, no-field, faults, lister-lines}
-use Rattle.theorems.specs.Worked.{two-fields, first-pairs, added, none-added, Worked}
+use Rattle.theorems.specs.Worked.{two-fields, first-pairs, members-in-turn, added, none-added, Worked}
 use Rattle.theorems.proofs.AllCalls.{any-right}
 use Rattle.theorems.proofs.Lists.{lists-right}
 use Rattle.theorems.proofs.NewStore.{new-right}
@@ -68,6 +69,11 @@ pairs-plain : Plainly 2 3 9 (without-new first-pairs)
 unfolding in-turn plain-any-step plain-step asked on-lists finishes guard also of-one of-pair of-path of-four level-of number first-packet first-pair
     run get mk-store mk-handle place having agrees constant identity-at-depth each-field test raise new op2 node2
 pairs-plain = refl
+
+members-plain : Plainly 2 3 6 (without-new members-in-turn)
+unfolding in-turn plain-any-step plain-step asked on-lists finishes guard also of-one level-of packet number before? first-packet
+    run get mk-store mk-handle place having agrees constant identity-at-depth each-field test raise new op2 node2
+members-plain = refl
 
 texts-plain : Plainly 1 1 3 (without-new faults) × Plainly 1 1 5 (without-new lister-lines)
     × RowsPlainly (λ r. r) 1 2 6 (without-new added) × RowsPlainly (λ r. r) 1 1 4 (without-new none-added)
@@ -144,4 +150,5 @@ worked = record {
   used-up = rows-begin (λ r. r) 1 18 3 (without-new none-added) refl (texts-plain .3);
   ordered = begins 2 146 21 (without-new two-fields) refl (calls-plain .2);
   first = begins 2 38 7 (without-new first-pairs) refl pairs-plain;
+  members = begins 2 26 7 (without-new members-in-turn) refl members-plain;
 }

@@ -1,4 +1,4 @@
--- All 44 calls as one type, the outcome of each on two memories and on the plain store, with the nodes that it added, and what the text of a
+-- All 45 calls as one type, the outcome of each on two memories and on the plain store, with the nodes that it added, and what the text of a
 -- policy relates; 01, "A list of calls, and its count", and 02, M-101.
 use mathlib.Core.List.{List}
 use Prim.Native.Nat.{ℕ, _≤_}
@@ -21,7 +21,7 @@ use Rattle.policy_text.specs.Grammar.{Sum}
 use Rattle.policies.specs.Outcome.{policy-step, most-bytes}
 use Rattle.policies.specs.declared.PolicyAnswer.{PolicyAnswer}
 
--- ALL 44 CALLS: those of `store`, and policies of any bytes
+-- ALL 45 CALLS: those of `store`, and policies of any bytes
 pub data AnyCall : Type 0 where
   call : Call → AnyCall
   policy : List ℕ → AnyCall

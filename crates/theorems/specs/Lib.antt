@@ -10,4 +10,5 @@ pub mod Histories
 pub mod EveryHistory
 pub mod AcceptedAlone
 pub mod Added
+pub mod MembersInTurn
 pub mod Worked

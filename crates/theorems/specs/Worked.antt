@@ -1,4 +1,4 @@
--- Document 01, "Calls with their handles": the calls in its order, each with its answer; and 02, M-100 and M-101.
+-- Document 01, "Calls with their handles": the calls in its order, each with its answer; and 02, M-100, M-101 and M-103.
 use mathlib.Core.Path.{_≡_}
 use mathlib.Core.List.{List, [], _∷_, map}
 use mathlib.Core.Bool.{Bool, true, false}
@@ -7,7 +7,7 @@ use lib.ListN.{length}
 use Rattle.store_check.specs.Memory.{Memories}
 use Rattle.call_rules.specs.Added.{node-counts}
 use Rattle.call_rules.specs.declared.Answer.{Answer}
-use Rattle.call_rules.specs.declared.Answer.the-variants.{Handle, Truth, SetNode, RelationNode, Declined, Pair, Nothing}
+use Rattle.call_rules.specs.declared.Answer.the-variants.{Handle, Truth, SetNode, RelationNode, Declined, Pair, Nothing, Member}
 use Rattle.call_rules.specs.declared.Refusal.{Refusal}
 use Rattle.call_rules.specs.declared.Refusal.the-variants.{NotHeld, LevelsDiffer, OutOfRange, UsedUp}
 use Rattle.store.specs.Calls.{Call, new-store, set-call, set-read, relation-call, relation-read, image-call, filter-call, path-read}
@@ -204,6 +204,37 @@ first-pairs =
     ∷ expects (path-read (FirstPath 1 0 1)) Nothing
     ∷ []
 
+-- a call of `next` with the set h, the last packet x and the marks g and e
+abbrev pub next : ℕ → ℕ → ℕ → ℕ → Call
+next h x g e = set-read (TR.Next (record { handle = h; last = x; given = g; ended = e }))
+
+-- 02, M-103: the full set of two fields, packet by packet, and then the end; the set of the packets that begin with 1, as handle 6
+abbrev pub members-in-turn : List Expected
+members-in-turn =
+    yields (new-store 2) 7
+    ∷ yields (set-call (T.Test 0 1)) 6
+    ∷ expects (next 5 0 0 0) (Member 0)
+    ∷ expects (next 5 0 1 0) (Member 1)
+    ∷ expects (next 5 1 1 0) (Member 2)
+    ∷ expects (next 5 2 1 0) (Member 3)
+    ∷ expects (next 5 3 1 0) Nothing
+    -- the end was met: it stays, whatever was given; any number but 0 is a mark
+    ∷ expects (next 5 0 1 1) Nothing
+    ∷ expects (next 5 0 7 9) Nothing
+    -- the last packet need not be a member, nor is it looked at where none was given
+    ∷ expects (next 6 0 7 0) (Member 2)
+    ∷ expects (next 6 77 0 0) (Member 2)
+    ∷ expects (next 4 77 0 0) Nothing
+    -- 1, 2 and 5 come before the end
+    ∷ refuses (next 99 4 1 1) NotHeld
+    ∷ refuses (next 5 4 1 1) OutOfRange
+    -- at level 0
+    ∷ expects (next 1 0 0 0) (Member 0)
+    ∷ expects (next 1 0 1 0) Nothing
+    ∷ expects (next 0 0 0 0) Nothing
+    ∷ refuses (next 1 1 1 0) OutOfRange
+    ∷ []
+
 -- 02, M-101: a text whose handle was held before, and which adds two nodes; again, and it adds none
 abbrev pub added : List (AnyCall × AnyReply)
 added =
@@ -242,5 +273,6 @@ pub record Worked : Type 0 where
   pub listed : TableRight 22 3 lister-lines
   pub ordered : TableRight 146 21 two-fields
   pub first : TableRight 38 7 first-pairs
+  pub members : TableRight 26 7 members-in-turn
   pub added-nodes : CountsRight 26 5 added
   pub used-up : CountsRight 18 3 none-added

@@ -1,9 +1,10 @@
 //! One call of the library on lent memory, compared with what the oracle says.
 
 use crate::lent::{Guard, Lent};
-use crate::library::{self, Asked, Memories};
+use crate::library::{self, guarded, record, Asked, Memories};
 use crate::memory::encode;
 use crate::said::Said;
+use oracle::next_member::moved;
 use oracle::random::Random;
 use oracle::store::Store;
 use std::fmt;
@@ -41,8 +42,8 @@ impl Case {
         encode(store, self.relations.numbers_mut(), self.sets.numbers_mut());
     }
 
-    /// Makes a call. The answer and the nodes added must be those of the oracle, the memories those of `after`,
-    /// or stay where there is none, and the working memory all zeros.
+    /// Makes a call. The answer, the nodes added and what is left in a lent record must be those of the oracle, the
+    /// memories those of `after`, or stay where there is none, and the working memory all zeros.
     pub fn make(
         &mut self,
         asked: Asked,
@@ -78,6 +79,12 @@ impl Case {
         }
         if given.appended.is_some_and(|appended| appended != said.grew()) {
             return Err(format!("answer of both: {answer}; whether it appended is the other way"));
+        }
+        if let (Some(found), Asked::Numbers(_, numbers)) = (given.record, asked) {
+            let left = guarded(moved(record(numbers), answer));
+            if found != left {
+                return Err(format!("answer of both: {answer}; record: {found:?}, not {left:?}"));
+            }
         }
         let parts = [
             ("relation memory", &self.relations, &expected.relations),

@@ -74,7 +74,7 @@ pub fn drawn(random: &mut Random, part: Part) -> Store {
 }
 
 /// Memories that hold the store, with few free places or none, and some numbers beyond the last.
-fn lent(store: &Store, guard: Guard, random: &mut Random) -> Case {
+pub fn lent(store: &Store, guard: Guard, random: &mut Random) -> Case {
     let (n, m) = store.counts();
     let places = (n + random.below(3), m + random.below(6));
     let beyond = (random.below(4) as usize, random.below(2) as usize);
@@ -85,7 +85,7 @@ fn lent(store: &Store, guard: Guard, random: &mut Random) -> Case {
 }
 
 /// The memories as they are, with one number changed, and cut, each with a word on what was done.
-fn damages(whole: &Case, random: &mut Random) -> Vec<(String, Case)> {
+pub fn damages(whole: &Case, random: &mut Random) -> Vec<(String, Case)> {
     let mut all = vec![("none".into(), whole.clone())];
     for relations in [true, false] {
         let kind = if relations { "relation" } else { "set" };
@@ -236,7 +236,7 @@ fn arguments(operation: &Operation, store: Option<&Store>, random: &mut Random) 
             Sort::Set => random.below(2 * m + 4),
             Sort::Relation => random.below(n + 3),
             Sort::Field => random.below(fields + 1),
-            Sort::Value => random.below(3),
+            Sort::Value | Sort::Mark => random.below(3),
             Sort::Packet => random.below(1 << fields.min(31)),
         }
     };

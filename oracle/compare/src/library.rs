@@ -4,6 +4,7 @@ use oracle::answer::{Answer, Fault, Refusal};
 use oracle::operations::{self, Operation};
 use packet_store as library;
 use packet_store::raw::{self, Reply};
+use packet_store::Cursor;
 use std::fmt;
 
 /// The three memories of a call.
@@ -40,12 +41,25 @@ pub struct Given {
     pub added: Option<(u32, u32)>,
     /// Whether an accepted `mk` says that it appended its node.
     pub appended: Option<bool>,
+    /// The record that a call was lent, as `guarded` has it, after the call.
+    pub record: Option<[Cursor; 3]>,
+}
+
+/// A record of these numbers as it is lent: between two others, which no call may change.
+pub fn guarded([handle, last, given, ended]: [u32; 4]) -> [Cursor; 3] {
+    let guard = Cursor { handle: 0xfeed, last: 0xface, given: 0xcafe, ended: 0xdeaf };
+    [guard, Cursor { handle, last, given, ended }, guard]
+}
+
+/// The four numbers of a record.
+pub fn record(numbers: &[u32]) -> [u32; 4] {
+    numbers.try_into().expect("a record has four numbers")
 }
 
 impl Given {
     fn read(given: Result<Answer, library::Refusal>) -> Given {
         let answer = given.unwrap_or_else(|refusal| Answer::Refused(oracles(refusal)));
-        Given { answer, added: None, appended: None }
+        Given { answer, added: None, appended: None, record: None }
     }
 
     fn made(reply: Reply) -> Given {
@@ -89,13 +103,24 @@ macro_rules! reads {
     };
 }
 
+/// A call that only reads and is lent a record of its numbers.
+macro_rules! steps {
+    ($name:ident, $answer:expr) => {
+        |m, x| {
+            let mut lent = guarded(record(x));
+            let given = library::$name(m.relations, m.sets, m.work, &mut lent[1]).map($answer);
+            Given { record: Some(lent), ..Given::read(given) }
+        }
+    };
+}
+
 type Run = fn(Memories, &[u32]) -> Given;
 
 /// The call that begins a store, on the number of fields.
 pub const NEW: Run = adds!(new(0));
 
 /// All other calls.
-pub static CALLS: [(&str, Run); 42] = [
+pub static CALLS: [(&str, Run); 43] = [
     ("set.mk", appends!(set_mk(0 1))),
     ("set.get", reads!(set_get(0), |x| Answer::Children(x.to_vec()))),
     ("set.union", adds!(set_union(0 1))),
@@ -109,6 +134,7 @@ pub static CALLS: [(&str, Run); 42] = [
     ("set.one", adds!(set_one())),
     ("intersects", reads!(set_intersects(0 1), Answer::YesNo)),
     ("ifelse", adds!(set_ifelse(0 1 2))),
+    ("set.next", steps!(set_next, Answer::Member)),
     ("rel.mk", appends!(relation_mk(0 1 2 3))),
     ("rel.get", reads!(relation_get(0), |x| Answer::Children(x.to_vec()))),
     ("rel.union", adds!(relation_union(0 1))),
@@ -173,7 +199,7 @@ fn policy(text: &[u8], memories: Memories) -> Given {
             Answer::RefusedAt(fault, offset as usize)
         }
     };
-    Given { answer, added: Some((reply.relations, reply.sets)), appended: None }
+    Given { answer, added: Some((reply.relations, reply.sets)), appended: None, record: None }
 }
 
 /// Whether an operation takes or makes relations.

@@ -7,6 +7,7 @@ mod lent;
 mod library;
 mod lists;
 mod meaning;
+mod members;
 mod memory;
 mod orders;
 mod pairs;
@@ -26,6 +27,7 @@ const USAGE: &str = "usage: compare calls SEED COUNT [sets | relations | both | 
        compare texts SEED COUNT
        compare pairs SEED COUNT
        compare triples LEVEL WORK
+       compare members SEED ROUNDS
        compare growth";
 
 fn main() -> ExitCode {
@@ -60,6 +62,9 @@ fn run(words: &[&str]) -> Option<Result<String, Difference>> {
         ["pairs", seed, count] => Some(pairs::compare(seed.parse().ok()?, count.parse().ok()?)),
         ["triples", level @ ("0" | "1" | "2"), work] => {
             Some(pairs::all(level.parse().ok()?, work.parse().ok()?))
+        }
+        ["members", seed, rounds] => {
+            Some(members::compare(seed.parse().ok()?, rounds.parse().ok()?))
         }
         ["growth"] => Some(Ok(growth::measure())),
         _ => None,

@@ -34,6 +34,7 @@ impl Bench {
         match (answer, meaning(operation.name, self.store.fields(), operands)) {
             (Answer::YesNo(yes), Value::YesNo(expected)) => yes == expected,
             (Answer::Pair(pair), Value::Pair(expected)) => pair == expected,
+            (Answer::Member(packet), Value::Member(expected)) => packet == expected,
             (Answer::Handle(handle), expected) => self.is_handle_of(handle, &expected),
             (Answer::Children(children), Value::Children(expected)) => {
                 let mut pairs = children.iter().zip(&expected);

@@ -1,17 +1,18 @@
 //! What document 01 says each operation means, on plain sets and relations.
 
-use super::plain::{field_is_one, packets, PacketRelation, PacketSet};
+use super::plain::{field_is_one, field_order, packets, PacketRelation, PacketSet};
 
 /// An operand or a result.
 #[derive(Clone, Debug, PartialEq, Eq)]
 pub enum Value {
     Set(PacketSet),
     Relation(PacketRelation),
-    /// A field, a field's value or a packet.
+    /// A field, a field's value, a packet or a mark.
     Number(u32),
     YesNo(bool),
     Children(Vec<Value>),
     Pair(Option<(u32, u32)>),
+    Member(Option<u32>),
 }
 
 impl Value {
@@ -60,6 +61,12 @@ pub fn meaning(name: &str, fields: u32, x: &[Value]) -> Value {
             let branch = if field_is_one(p, s(1).level, n(0)) { 1 } else { 2 };
             s(branch).has(p)
         }),
+        "set.next" => {
+            let level = s(0).level;
+            let after = |p| n(2) == 0 || field_order(level, n(1), p).is_lt();
+            let left = (0..packets(level)).filter(|&p| n(3) == 0 && s(0).has(p) && after(p));
+            Value::Member(left.min_by(|&p, &q| field_order(level, p, q)))
+        }
 
         "rel.mk" => Value::Relation(PacketRelation::join([0, 1, 2, 3].map(|i| r(i).clone()))),
         "rel.get" => Value::Children(r(0).split().map(Value::Relation).to_vec()),

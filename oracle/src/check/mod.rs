@@ -3,6 +3,7 @@
 
 mod bench;
 mod meaning;
+pub mod members;
 mod operands;
 pub mod pairs;
 mod plain;
@@ -13,6 +14,7 @@ use crate::operations::{self, Operation, Sort};
 use crate::random::Random;
 use bench::Bench;
 use meaning::Value;
+pub use plain::field_order;
 pub use policies::text_relation;
 use std::io::{self, Write};
 
@@ -26,6 +28,8 @@ pub struct Effort {
     pub random_lists: usize,
     /// `first_path` on all sets and relations of the levels up to this.
     pub all_pairs_to: u32,
+    /// `set.next` on all sets and records of the levels up to this.
+    pub all_members_to: u32,
 }
 
 /// Compares all there is, writes a table, and returns whether all agreed.
@@ -44,6 +48,7 @@ pub fn check(effort: &Effort, mut output: impl Write) -> io::Result<bool> {
         }
     }
     agreed &= pairs::check(effort.all_pairs_to, &mut output)?;
+    agreed &= members::check(effort.all_members_to, &mut output)?;
     let Checker { held, doubles, .. } = checker;
     writeln!(output, "handles with the meaning of another: {doubles} of {held}")?;
     let (answers, wrong) = worked::compare();

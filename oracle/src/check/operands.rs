@@ -6,6 +6,9 @@ use crate::operations::{Operation, Sort};
 use crate::random::Random;
 use std::slice::from_ref;
 
+/// The marks of a record.
+const MARKS: [u32; 3] = [0, 1, 7];
+
 /// All lists of operands of one level, if there are at most `most`.
 pub fn all(operation: &Operation, level: u32, most: u64) -> Option<Vec<Vec<Value>>> {
     let sizes = operation.sorts.iter().map(|sort| match sort {
@@ -14,6 +17,7 @@ pub fn all(operation: &Operation, level: u32, most: u64) -> Option<Vec<Vec<Value
         Sort::Field => Some(u64::from(level)),
         Sort::Value => Some(2),
         Sort::Packet => Some(u64::from(packets(level))),
+        Sort::Mark => Some(MARKS.len() as u64),
     });
     let size = sizes.reduce(|a, b| a?.checked_mul(b?)).unwrap_or(Some(1))?;
     (size <= most).then(|| lists(operation.sorts, level))
@@ -29,6 +33,7 @@ fn lists(sorts: &[Sort], level: u32) -> Vec<Vec<Value>> {
         Sort::Field => (0..level).map(Value::Number).collect(),
         Sort::Value => (0..2).map(Value::Number).collect(),
         Sort::Packet => (0..packets(level)).map(Value::Number).collect(),
+        Sort::Mark => MARKS.map(Value::Number).to_vec(),
     };
     let mut longer = vec![];
     for list in lists(earlier, level) {
@@ -56,6 +61,7 @@ pub fn random(operation: &Operation, level: u32, random: &mut Random) -> Vec<Val
             (Sort::Field, _) => Value::Number(random.below(level)),
             (Sort::Value, _) => Value::Number(random.below(2)),
             (Sort::Packet, _) => Value::Number(random.below(packets(level))),
+            (Sort::Mark, _) => Value::Number(random.pick(&MARKS)),
         };
         list.push(value);
     }

@@ -1,6 +1,8 @@
 //! Plain sets and relations of packets, by which the operations are judged.
 //! Packets have at most 6 fields, so that a set of them fits in 64 bits.
 
+use std::cmp::Ordering;
+
 /// How many packets have `level` fields.
 pub fn packets(level: u32) -> u32 {
     1 << level
@@ -9,6 +11,12 @@ pub fn packets(level: u32) -> u32 {
 /// Whether field `field` of a packet of `level` fields is 1; field 0 is the highest bit.
 pub fn field_is_one(packet: u32, level: u32, field: u32) -> bool {
     packet >> (level - 1 - field) & 1 == 1
+}
+
+/// How two packets of `level` fields compare in field order: field by field from field 0 on, 0 before 1.
+pub fn field_order(level: u32, p: u32, q: u32) -> Ordering {
+    let fields = |packet| (0..level).map(move |field| field_is_one(packet, level, field));
+    fields(p).cmp(fields(q))
 }
 
 /// A set of packets: bit p is set where packet p is a member.

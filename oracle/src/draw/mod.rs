@@ -1,6 +1,6 @@
 //! Draws random lists of calls. It makes them as it draws, to know which handles there are.
 
-mod handles;
+pub mod handles;
 mod spoil;
 pub mod texts;
 
@@ -108,6 +108,8 @@ impl Draw {
             }
             Sort::Value => random.below(2),
             Sort::Packet => (random.bits() & ((1 << level) - 1)) as u32,
+            Sort::Mark if random.once_in(8) => random.bits() as u32,
+            Sort::Mark => random.below(2),
         };
         operation.sorts.iter().map(argument).collect()
     }

@@ -1,11 +1,12 @@
 -- `first_pair` finds the first pair; the measure is the level.
 use mathlib.Core.Path.{_≡_, refl, subst}
-use Prim.Native.Nat.{ℕ, suc, _+_, _-_, _^_, _<_}
+use Prim.Native.Nat.{ℕ, _+_, _-_, _^_, _<_}
 use native.Mathlib.Omega.{arith}
 use borrow.Author.Needs.{needs}
 use borrow.Fn.Kinds.{In}
 use borrow.Fn.PlainCycle.{Measures, is, falls, and}
 use Rattle.model.proofs.Powers.{pow-pos}
+use Rattle.first_paths.proofs.Halves.{one-above}
 use Rattle.first_paths.proofs.Pairs.{pair-at-0, pair-next}
 use Rattle.first_paths.proofs.first_pair.Reads as first-pair
 use Rattle.first_paths.proofs.first_pair.Kinds as first-pair-kinds
@@ -45,9 +46,6 @@ calls t = (
   with-bit-reads.Asked,
   with-bit-reads.Learnt,
 )
-
-one-above : (l : ℕ) → (l ≡ 0 → ⊥) → l ≡ suc (l - 1)
-one-above l h = omega arith
 
 below : (l n : ℕ) → (l ≡ 0 → ⊥) → n < 2 ^ (l - 1 + 1) → n < 2 ^ l
 below l n h i = subst (λ l. n < 2 ^ l) (let e : l - 1 + 1 ≡ l = omega arith in e) i

@@ -47,6 +47,9 @@ enum-told c = search needs
 enum-told-2 : tie.Need-enum-told-2
 enum-told-2 c = search needs
 
+enum-told-3 : tie.Need-enum-told-3
+enum-told-3 c = search needs
+
 returns : tie.Need-returns
 returns c = low _ ∙ sym (ap packed (c .before .a .given .1))
 
@@ -72,6 +75,9 @@ returns-7 c = sym (ap packed (c .enum-told .given .1))
 returns-8 : tie.Need-returns-8
 returns-8 c = sym (ap packed (c .enum-told2 .given .1))
 
+returns-9 : tie.Need-returns-9
+returns-9 c = sym (ap packed (c .enum-told3 .given .1))
+
 pub pack-spec : {M : Type 1} → statement M
 pack-spec =
     tie.close
@@ -89,6 +95,7 @@ pack-spec =
     mul-result
     enum-told
     enum-told-2
+    enum-told-3
     returns
     returns-2
     returns-3
@@ -96,4 +103,5 @@ pack-spec =
     returns-5
     returns-6
     returns-7
-    returns-8)
+    returns-8
+    returns-9)

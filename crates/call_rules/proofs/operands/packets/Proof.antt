@@ -1,27 +1,18 @@
 -- `packets` answers the operand's level where both packets are numbers below 2 to the power of it.
 use mathlib.Core.Path.{_≡_, refl, subst}
-use mathlib.Core.Bool.{true, false}
 use Prim.Native.Nat.{ℕ, _^_, _<_, _≤_}
 use native.Mathlib.Omega.{arith}
 use lib.Dec.{ltb}
 use borrow.Author.Needs.{needs}
-use borrow.Author.Tests.{lt-ltb, le-ltb}
 use Rattle.model.specs.Store.{rel}
 use Rattle.call_rules.specs.Checking.{Low}
 use Rattle.call_rules.specs.Outcome.{also}
 use Rattle.call_rules.specs.declared.Check.{Check}
 use Rattle.call_rules.specs.declared.Check.the-variants.{Level, No}
 use Rattle.call_rules.specs.declared.Refusal.the-variants.{OutOfRange}
-use Rattle.call_rules.proofs.Handles.{also-no, also-yes, still-no}
+use Rattle.call_rules.proofs.Handles.{also-no, also-yes, still-no, too-big, in-range}
 use Rattle.call_rules.proofs.operands.packets.Statement.{statement}
 use Rattle.call_rules.proofs.operands.packets.Tie as tie
-
--- a packet against the power of 2 that was computed
-too-big : (x w p l n : ℕ) → w ≡ x → p ≡ 2 ^ n → n ≡ l → p ≤ w → ltb x (2 ^ l) ≡ false
-too-big x w p l n e f g h = le-ltb x (2 ^ l) (subst (λ l. 2 ^ l ≤ x) g (omega (arith, e, f)))
-
-in-range : (x w p l n : ℕ) → w ≡ x → p ≡ 2 ^ n → n ≡ l → w < p → ltb x (2 ^ l) ≡ true
-in-range x w p l n e f g h = lt-ltb x (2 ^ l) (subst (λ l. x < 2 ^ l) g (omega (arith, e, f)))
 
 -- the operand's level is at most 32
 level-low : (c : tie.After-check) → c .check .given .0 .0 ≤ 32

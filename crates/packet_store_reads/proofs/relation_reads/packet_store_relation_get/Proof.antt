@@ -1,6 +1,6 @@
 -- One call, the children written, its answer packed.
 use borrow.Author.Needs.{needs}
-use Rattle.packet_store_reads.proofs.Children.{answers-children}
+use Rattle.packet_store_reads.proofs.Lent.{answers-lent}
 use Rattle.packet_store_reads.proofs.relation_reads.packet_store_relation_get.Statement.{statement}
 use Rattle.packet_store_reads.proofs.relation_reads.packet_store_relation_get.Tie as tie
 
@@ -19,7 +19,7 @@ same-length c = search needs
 returns : tie.Need-returns
 returns c =
     let asked = c .before .before .before .before .before .relation-read .ensures in
-    answers-children _ _ _ _ _ _ _ _ _ asked (c .before .fill-relation .ensures) (c .pack .ensures)
+    answers-lent _ _ _ _ _ _ _ _ _ asked (c .before .fill-relation .ensures) (c .pack .ensures)
 
 pub packet-store-relation-get-spec : {M : Type 1} → statement M
 packet-store-relation-get-spec =

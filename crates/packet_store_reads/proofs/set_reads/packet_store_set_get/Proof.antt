@@ -1,6 +1,6 @@
 -- One call, the children written, its answer packed.
 use borrow.Author.Needs.{needs}
-use Rattle.packet_store_reads.proofs.Children.{answers-children}
+use Rattle.packet_store_reads.proofs.Lent.{answers-lent}
 use Rattle.packet_store_reads.proofs.set_reads.packet_store_set_get.Statement.{statement}
 use Rattle.packet_store_reads.proofs.set_reads.packet_store_set_get.Tie as tie
 
@@ -17,7 +17,7 @@ same-length : tie.Need-same-length
 same-length c = search needs
 
 returns : tie.Need-returns
-returns c = answers-children _ _ _ _ _ _ _ _ _ (c .before .before .before .before .before .set-read .ensures) (c .before .fill-set .ensures) (c .pack .ensures)
+returns c = answers-lent _ _ _ _ _ _ _ _ _ (c .before .before .before .before .before .set-read .ensures) (c .before .fill-set .ensures) (c .pack .ensures)
 
 pub packet-store-set-get-spec : {M : Type 1} → statement M
 packet-store-set-get-spec =

@@ -35,6 +35,9 @@ enum-known-a-6 c = search needs
 enum-told : tie.Need-enum-told
 enum-told c = search needs
 
+enum-known-a-7 : tie.Need-enum-known-a-7
+enum-known-a-7 c = search needs
+
 -- what is shown of an answer is shown of one that equals it
 of-equal : (a b : Answer) (s : Shown) → a ≡ b → Shows b s → Shows a s
 of-equal a b s e = subst (λ (x : Answer). Shows x s) (sym e)
@@ -71,6 +74,9 @@ returns-7 c = of-equal _ _ _ (c .before .a6 .given .1) (record { letter = refl; 
 returns-8 : tie.Need-returns-8
 returns-8 c = of-equal _ _ _ (c .enum-told .given .1) (record { letter = refl; few = omega arith; numbers = refl })
 
+returns-9 : tie.Need-returns-9
+returns-9 c = of-equal _ _ _ (c .before .a7 .given .1) (record { letter = refl; few = omega arith; numbers = refl })
+
 pub show-spec : {M : Type 1} → statement M
 show-spec =
     tie.close
@@ -83,6 +89,7 @@ show-spec =
     number-of-requires
     enum-known-a-6
     enum-told
+    enum-known-a-7
     returns
     returns-2
     returns-3
@@ -90,4 +97,5 @@ show-spec =
     returns-5
     returns-6
     returns-7
-    returns-8)
+    returns-8
+    returns-9)

@@ -37,10 +37,17 @@ returns-4 c =
     let after-call4 = after-intersects .before .before .before in
     of-call _ (after-call4 .call4 .given .1) (reads-truth (intersects-read-only _ _ _) (λ S s. s) (λ S. refl) (after-intersects .intersects .ensures))
 
+returns-5 : tie.Need-returns-5
+returns-5 c =
+    let after-call5 = c .before .before .before in
+    of-call _ (after-call5 .call5 .given .1) (c .next-member .ensures _)
+
 pub answer-spec : {M : Type 1} → statement M
 answer-spec =
     tie.close
     (tie.spec
+    (λ c. search needs)
+    (λ c κs. search needs)
     (λ c. search needs)
     (λ c κs. search needs)
     (λ c. search needs)
@@ -54,4 +61,6 @@ answer-spec =
     (λ c. search needs)
     returns-3
     (λ c. search needs)
-    returns-4)
+    returns-4
+    (λ c. search needs)
+    returns-5)

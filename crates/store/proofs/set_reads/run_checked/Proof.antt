@@ -31,6 +31,21 @@ part-answer-start c =
     let entry = c .before .before .before .before .before .before .before .before .before .before .before in
     let h = entry .pre .store .room set .headed in omega arith
 
+check-requires : tie.Need-check-requires
+check-requires c κs = c .before .before .before .before .before .before .before .pre .store .few
+
+answer-requires : tie.Need-answer-requires
+answer-requires c κs =
+    let after-check3 = c .before .before .before .before in
+    let after-check = after-check3 .before .before in
+    let after-as-index = after-check .before .before in
+    let entry = after-as-index .before .before .before .before .before .before in
+    let a = entry .args in
+    let h = reading-low set (memories (a .relations .now) (a .sets .now)) (a .work .now) (entry .pre) _ (after-as-index .as-index .ensures)
+    (set-reading (a .call)) _ (checked-here set (entry .pre .store) (after-as-index .as-index .ensures) (after-check .check .ensures)) _
+    (after-check3 .check3 .given .1) in
+    omega (arith, c .as-level .ensures)
+
 returns : tie.Need-returns
 returns c =
     let after-check = c .before .before .before in
@@ -75,14 +90,14 @@ run-checked-spec =
     sub-check
     part-check-start
     (λ c. search needs)
-    (λ c κs. search needs)
+    check-requires
     (λ c. search needs)
     (λ c. search needs)
     sub-answer
     part-answer-start
     (λ c. search needs)
     as-level-requires
-    (λ c κs. search needs)
+    answer-requires
     returns
     (λ c. search needs)
     returns-2)
