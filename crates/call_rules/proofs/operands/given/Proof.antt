@@ -12,7 +12,7 @@ use Rattle.call_rules.proofs.Handles.{also-no, also-yes, still-no, too-
 use Rattle.call_rules.proofs.operands.given.Statement.{statement}
 use Rattle.call_rules.proofs.operands.given.Tie as tie
 
--- a packet that was given is asked for, and else none is
+-- the packet counts where one was given, and else not
 asked : (g x l : ℕ) {b : Bool} → (g ≡ 0 → ⊥) → ltb x (2 ^ l) ≡ b → (eqb g 0 || ltb x (2 ^ l)) ≡ b
 asked g x l n e = rw (ne-eqb g 0 n) e
 
