@@ -25,7 +25,7 @@ use Rattle.first_paths.specs.FromRanks.{FindsFrom}
 use Rattle.call_rules.specs.Checking.{Answered}
 use Rattle.call_rules.specs.declared.Answer.{Answer}
 use Rattle.call_rules.specs.declared.Answer.the-variants.{Nothing, Member}
-use Rattle.store.specs.Cursors.{to-come?, as-member}
+use Rattle.store.specs.Cursors.{last-fits?, to-come?, as-member}
 use Rattle.store.specs.SetCalls.{set-read-answer}
 use Rattle.store.specs.SetChecking.{SetReadSafe, from-rank}
 use Rattle.store.specs.declared.set_reads.Cursor.{Cursor}
@@ -33,7 +33,7 @@ use Rattle.store.specs.declared.set_reads.SetRead.the-variants.{Next}
 
 module _ (l : ℕ) (c : Cursor) where
   -- what is after the last packet has a greater rank
-  after-last : (p : List ℕ) → Packet l p → (eqb (c .given) 0 || ltb (c .last) (2 ^ l)) ≡ true
+  after-last : (p : List ℕ) → Packet l p → last-fits? l c ≡ true
       → ((eqb (c .given) 0 || before? (packet l (c .last)) p) ≡ true) ↔ (from-rank c ≤ rank p)
   after-last p P = by-test (λ b. (b || ltb (c .last) (2 ^ l)) ≡ true
       → ((b || before? (packet l (c .last)) p) ≡ true) ↔ (pick b 0 (c .last + 1) ≤ rank p)) (eqb (c .given) 0)

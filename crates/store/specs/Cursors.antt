@@ -3,8 +3,8 @@
 use mathlib.Core.List.{List}
 use mathlib.Core.Option.{Option, none, some}
 use mathlib.Core.Bool.{Bool, _&&_, _||_}
-use Prim.Native.Nat.{ℕ}
-use lib.Dec.{eqb}
+use Prim.Native.Nat.{ℕ, _^_}
+use lib.Dec.{eqb, ltb}
 use Rattle.model.specs.Store.{Store, pick}
 use Rattle.model.specs.Packets.{packet, number}
 use Rattle.model.specs.FieldOrder.{before?}
@@ -13,6 +13,10 @@ use Rattle.model.specs.Members.{member?}
 use Rattle.call_rules.specs.declared.Answer.{Answer}
 use Rattle.call_rules.specs.declared.Answer.the-variants.{Handle, Truth, SetNode, RelationNode, Declined, Pair, Nothing, Member}
 use Rattle.store.specs.declared.set_reads.Cursor.{Cursor}
+
+-- whether the last packet, where one was given, has a number of level l
+abbrev pub last-fits? : ℕ → Cursor → Bool
+last-fits? l c = eqb (c .given) 0 || ltb (c .last) (2 ^ l)
 
 -- whether the packet p of l fields is still to come: a member, and after the last one where any was given. 02: "The last header need not be a member"
 abbrev pub to-come? : Store → ℕ → Cursor → List ℕ → Bool

@@ -6,7 +6,7 @@ use mathlib.Core.Logic.{_↔_}
 use mathlib.Core.Option.{none}
 use mathlib.Core.Bool.{Bool, true, false, _&&_, _||_, and-true}
 use Prim.Native.Nat.{ℕ, zero, suc, _^_}
-use lib.Dec.{eqb, ltb}
+use lib.Dec.{eqb}
 use lib.ListN.{length, replicate, length-replicate}
 use borrow.Author.Tests.{eq-eqb, ne-eqb, lt-ltb}
 use Rattle.model.specs.FieldOrder.{before?}
@@ -29,7 +29,7 @@ use Rattle.call_rules.specs.declared.Check.the-variants.{Level}
 use Rattle.call_rules.specs.declared.Refusal.the-variants.{OutOfRange}
 use Rattle.call_rules.proofs.Handles.{one-is, also-no, also-yes}
 use Rattle.call_rules.proofs.Outcomes.{given}
-use Rattle.store.specs.Cursors.{to-come?, next-member, as-member, with-last, at-end, moved}
+use Rattle.store.specs.Cursors.{last-fits?, to-come?, next-member, as-member, with-last, at-end, moved}
 use Rattle.store.specs.SetCalls.{set-read-answer, set-read-verdict}
 use Rattle.store.specs.declared.set_reads.Cursor.{Cursor}
 use Rattle.store.specs.declared.set_reads.SetRead.the-variants.{Next}
@@ -45,9 +45,6 @@ use Rattle.theorems.proofs.Histories.{lent-before, none-before}
 record Holds (S : Store) (l h : ℕ) (M : Memories) : Type 0 where
   store : IsStore M
   lasts : Lasts set S (decode M) l h
-
-abbrev fits? : ℕ → Cursor → Bool
-fits? l c = eqb (c .given) 0 || ltb (c .last) (2 ^ l)
 
 module _ {S : Store} {l : ℕ} (c : Cursor) {M : Memories} (H : Holds S l (c .handle) M) where
   abbrev here : Store
@@ -67,18 +64,18 @@ module _ {S : Store} {l : ℕ} (c : Cursor) {M : Memories} (H : Holds S l (c .ha
   answered : (r : Answer) → set-read-verdict (Next c) (fields M) here ≡ gives r → next-answer M c ≡ r
   answered r e = ap (λ t. t .answer) (set-read-steps (Next c) M ∙ sym (given Declined (set-read-verdict (Next c)) M (H .store) r e))
 
-  next-is : fits? l c ≡ true → next-answer M c ≡ as-member (next-member S l c)
+  next-is : last-fits? l c ≡ true → next-answer M c ≡ as-member (next-member S l c)
   next-is e = answered (as-member (next-member here l c))
-      (ap (λ d. unless-declined Declined d (λ l. gives (set-read-answer here l (Next c)))) (also-yes OutOfRange (λ l. fits? l c) held-one l refl e))
+      (ap (λ d. unless-declined Declined d (λ l. gives (set-read-answer here l (Next c)))) (also-yes OutOfRange (λ l. last-fits? l c) held-one l refl e))
       ∙ ap as-member same-next
 
-  next-refused : fits? l c ≡ false → next-answer M c ≡ Declined OutOfRange
+  next-refused : last-fits? l c ≡ false → next-answer M c ≡ Declined OutOfRange
   next-refused e = answered (Declined OutOfRange)
-      (ap (λ d. unless-declined Declined d (λ l. gives (set-read-answer here l (Next c)))) (also-no OutOfRange (λ l. fits? l c) held-one l refl e))
+      (ap (λ d. unless-declined Declined d (λ l. gives (set-read-answer here l (Next c)))) (also-no OutOfRange (λ l. last-fits? l c) held-one l refl e))
 
 -- so wherever the set is held there is one answer
 one-answer : {S : Store} {l : ℕ} (c : Cursor) {M M′ : Memories} → Holds S l (c .handle) M → Holds S l (c .handle) M′ → next-answer M c ≡ next-answer M′ c
-one-answer {S} {l} c {M} {M′} A B = by-test (λ b. fits? l c ≡ b → next-answer M c ≡ next-answer M′ c) (fits? l c)
+one-answer {S} {l} c {M} {M′} A B = by-test (λ b. last-fits? l c ≡ b → next-answer M c ≡ next-answer M′ c) (last-fits? l c)
     (λ _ e. next-is c A e ∙ sym (next-is c B e))
     (λ _ e. next-refused c A e ∙ sym (next-refused c B e))
     refl
@@ -128,7 +125,7 @@ module _ (S : Store) (l : ℕ) (c : Cursor) where
     is-packet : Packet l p
     is-packet = head-passes l (to-come? S l c) passes .0
 
-    last-fits : fits? l (with-last c (number p)) ≡ true
+    last-fits : last-fits? l (with-last c (number p)) ≡ true
     last-fits = lt-ltb (number p) (2 ^ l) (number-below is-packet)
 
     -- what is after p is after the last one before it
@@ -198,7 +195,8 @@ module _ (M : Memories) (s : IsStore M) (l : ℕ) (c : Cursor) (A : Held set (de
 
   pub members-right : MembersRight M l c
   members-right = record {
-    in-turn = λ n. taken S₀ l (replicate n M) c (each-replicate (Holds S₀ l (c .handle)) n M its-own) f ∙ ap (λ m. given-in-turn m (to-come S₀ l c) c) (length-replicate n M);
+    in-turn = λ n. taken S₀ l (replicate n M) c (each-replicate (Holds S₀ l (c .handle)) n M its-own) f
+        ∙ ap (λ m. given-in-turn m (to-come S₀ l c) c) (length-replicate n M);
     all = λ g e. unmet e ∙ passing-alike l (to-come? S₀ l c) (member? S₀ (c .handle))
         (λ p P. ap (λ b. member? S₀ (c .handle) p && (b || before? (packet l (c .last)) p)) (eq-eqb (c .given) 0 g) ∙ and-true (member? S₀ (c .handle) p));
     order = order-iff (λ p. one-iff (walk set S₀ (c .handle) p)) (in-order l (member? S₀ (c .handle)));

@@ -1,9 +1,9 @@
 -- What calls of `next` give in turn, each with the record as the call before left it: 02, M-103.
 use mathlib.Core.Path.{_≡_}
 use mathlib.Core.List.{List, [], _∷_, _++_}
-use mathlib.Core.Bool.{true, _||_}
-use Prim.Native.Nat.{ℕ, zero, suc, _^_}
-use lib.Dec.{eqb, ltb}
+use mathlib.Core.Bool.{true}
+use Prim.Native.Nat.{ℕ, zero, suc}
+use lib.Dec.{eqb}
 use lib.ListN.{length, replicate}
 use Rattle.model.specs.FieldOrder.{before?}
 use Rattle.model.specs.Members.{passing, members, InOrder}
@@ -14,7 +14,7 @@ use Rattle.store_check.specs.Memory.{Memories, decode}
 use Rattle.call_rules.specs.declared.Answer.{Answer}
 use Rattle.call_rules.specs.declared.Answer.the-variants.{Nothing, Member}
 use Rattle.store.specs.Calls.{set-read, step}
-use Rattle.store.specs.Cursors.{to-come?, with-last, at-end, moved}
+use Rattle.store.specs.Cursors.{last-fits?, to-come?, with-last, at-end, moved}
 use Rattle.store.specs.declared.set_reads.Cursor.{Cursor}
 use Rattle.store.specs.declared.set_reads.SetRead.the-variants.{Next}
 use Rattle.theorems.specs.EveryHistory.{memories-after}
@@ -42,7 +42,7 @@ given-in-turn (suc n) (p ∷ ps) c = (let r = given-in-turn n ps (with-last c (n
 
 -- the record's last packet, where one was given, has a number of level l
 abbrev pub LastFits : ℕ → Cursor → Type 0
-LastFits l c = (eqb (c .given) 0 || ltb (c .last) (2 ^ l)) ≡ true
+LastFits l c = last-fits? l c ≡ true
 
 -- ON ONE STORE. The calls give what is to come
 pub record MembersRight (M : Memories) (l : ℕ) (c : Cursor) : Type 0 where

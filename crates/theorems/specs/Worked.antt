@@ -225,7 +225,7 @@ members-in-turn =
     ∷ expects (next 6 0 7 0) (Member 2)
     ∷ expects (next 6 77 0 0) (Member 2)
     ∷ expects (next 4 77 0 0) Nothing
-    -- 1, 2 and 5 come before the end
+    -- 2 and 5 come before the end
     ∷ refuses (next 99 4 1 1) NotHeld
     ∷ refuses (next 5 4 1 1) OutOfRange
     -- at level 0
