@@ -103,11 +103,15 @@ static void build(char sign, const uint32_t *n) {
     switch (sign) {
     case '0': put(0, bddfalse); break;
     case '1': put(0, same[n[0]][n[1]]); break;
+    case 'T': put(0, bddtrue); break;
     case '=': put(0, bdd_and(same[n[2]][n[3]], literal(n[0], n[2], n[1]))); break;
     case ':': put(0, bdd_restrict(same[n[2]][n[3]], literal(n[0], n[2], n[1]))); break;
     case '!': put(1, bdd_apply(same[n[0]][n[1]], top[-1], bddop_diff)); break;
     case '*': put(1, star(top[-1], n[0], n[1])); break;
     case '+': put(2, bdd_or(top[-2], top[-1])); break;
+    case '&': put(2, bdd_and(top[-2], top[-1])); break;
+    case '-': put(2, bdd_apply(top[-2], top[-1], bddop_diff)); break;
+    case '^': put(2, bdd_xor(top[-2], top[-1])); break;
     case ';': put(2, bdd_appex(top[-2], top[-1], bddop_and, variables[n[0]])); break;
     }
 }

@@ -385,18 +385,21 @@ packet_store_pair packet_store_relation_first_path(const uint32_t *relations, si
  * from one packet_store_new, relate the same pairs exactly when they have one handle. The text, a pointer and a length in
  * bytes, has at most 4,096 bytes and no spaces; a text of no bytes may have a null pointer:
  *
- *   sum      products joined by +           union
+ *   sum      terms joined by +              union
+ *   term     products joined by & - ^       intersection, difference, exclusive or; one level, from the left
  *   product  starred items joined by ;      one after the other
  *   starred  an atom, any number of *       any number of steps, none included
- *   atom     0  1  xN=b  xN:=b  !atom  (sum)
+ *   atom     0  1  T  xN=b  xN:=b  !atom  (sum)
  *
- * 0 relates nothing, 1 each packet to itself, xN=b the packets whose field N is b to themselves, xN:=b each packet to
- * itself with b in field N, !p the packets that p refuses to themselves. N is one or two digits without a leading
- * zero, b is 0 or 1; an atom stands inside at most 32 ( and !, and the operand of a ! has neither := nor *.
+ * 0 relates nothing, 1 each packet to itself, T every packet to every packet, xN=b the packets whose field N is b to
+ * themselves, xN:=b each packet to itself with b in field N, !p the packets that p refuses to themselves. N is one or two
+ * digits without a leading zero, b is 0 or 1; an atom stands inside at most 32 ( and !, and the operand of a ! has neither
+ * := nor * nor T. So p-q&r is (p-q)&r. Where test frames are the packets with 1 in fields 2 and 3, the filter 1-x2=1;x3=1
+ * passes all but them, as !x2=1+!x3=1 does, and (p)-x2=1;x3=1;T is what a table p does with all but them.
  *
  * Refuses: 1; 10 if the text is longer; 7 at the first byte that cannot stand there, or at the length where the text
  * ends too soon, or 9 at the first ( or ! inside 32 others, whichever offset is lower; 5 at the first x whose N is k or
- * more; 8 at the first ! over := or *; 6. With 5, 7, 8 and 9 the low half is the offset, with 1, 6 and 10 it is 0.
+ * more; 8 at the first ! over :=, * or T; 6. With 5, 7, 8 and 9 the low half is the offset, with 1, 6 and 10 it is 0.
  */
 packet_store_reply packet_store_policy(uint32_t *relations, size_t relations_len, const uint32_t *sets, size_t sets_len,
                                        uint32_t *work, size_t work_len, const uint8_t *text, size_t text_len);

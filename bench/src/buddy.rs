@@ -2,7 +2,7 @@
 
 use crate::rounds::{Text, Times};
 use crate::sides::{run_rust, Lent, MOST_PLACES};
-use oracle::policy::Policy;
+use oracle::policy::{Mix, Policy};
 use oracle::random::Random;
 use packet_store::{relation_is_zero, relation_relates};
 use reference::spp::SPP;
@@ -81,6 +81,7 @@ fn write(policy: &Policy, x: u32, y: u32, text: &mut String) {
     match policy {
         Policy::Zero => *text += "0 ",
         Policy::One => *text += &format!("1 {x} {y} "),
+        Policy::Full => *text += "T ",
         Policy::Test { field, value, .. } => *text += &format!("= {field} {value} {x} {y} "),
         Policy::Assign { field, value, .. } => *text += &format!(": {field} {value} {x} {y} "),
         Policy::Not { operand, .. } => {
@@ -91,10 +92,15 @@ fn write(policy: &Policy, x: u32, y: u32, text: &mut String) {
             write(operand, x, y, text);
             *text += &format!("* {x} {y} ");
         }
-        Policy::Sum(left, right) => {
+        Policy::Sum(left, right) | Policy::Mix(_, left, right) => {
             write(left, x, y, text);
             write(right, x, y, text);
-            *text += "+ ";
+            *text += match policy {
+                Policy::Mix(Mix::Both, ..) => "& ",
+                Policy::Mix(Mix::Minus, ..) => "- ",
+                Policy::Mix(Mix::Either, ..) => "^ ",
+                _ => "+ ",
+            };
         }
         Policy::Product(left, right) => {
             let between = 3 - x - y;

@@ -1,4 +1,4 @@
-//! Policy texts: document 01's cases, offsets, the order of creation and meanings.
+//! Policy texts: document 01's cases, offsets, how signs bind, the order of creation and meanings.
 
 use oracle::answer::{Answer, Fault, Refusal};
 use oracle::call::Call;
@@ -47,12 +47,54 @@ fn a_text_is_wrong_at_the_first_byte_that_cannot_stand_there() {
         ("()", "r 7 1"),
         ("!*", "r 7 1"),
         ("1 ", "r 7 1"),
+        ("t", "r 7 0"),
+        ("T=", "r 7 1"),
+        ("T1", "r 7 1"),
+        ("-1", "r 7 0"),
+        ("1&-1", "r 7 2"),
+        ("1^^1", "r 7 2"),
+        ("x1=1&", "r 7 5"),
+        ("(T-", "r 7 3"),
+        ("(T&1", "r 7 4"),
         ("1+x2=0", "r 5 2"),
+        ("!T-x2=0", "r 5 3"),
         ("!x1:=0+x2=0", "r 5 7"),
         ("1;!!(x1=1;1*)", "r 8 2"),
+        ("!(1&T)", "r 8 0"),
+        ("!x0=1&!T", "r 8 6"),
+        ("!(x0=1-x1=1)^!(1-!T)", "r 8 13"),
     ];
     for (text, expected) in cases {
         assert_eq!(answer(2, text), expected, "{text:?}");
+    }
+}
+
+/// A store of two fields, as `new` leaves it or without a node.
+fn stores() -> [Store; 2] {
+    [Store::new(2, 999, 9).unwrap(), Store::with_nodes(2, 999, 9, &[], &[]).ok().unwrap()]
+}
+
+#[test]
+fn the_three_signs_bind_between_plus_and_the_semicolon_from_the_left() {
+    let cases = [
+        ("1+T-1", "1+(T-1)", "(1+T)-1"),
+        ("T-1+1", "(T-1)+1", "T-(1+1)"),
+        ("0;T^T", "(0;T)^T", "0;(T^T)"),
+        ("T-x0=1;T", "T-(x0=1;T)", "(T-x0=1);T"),
+        ("T-1-1", "(T-1)-1", "T-(1-1)"),
+        ("T-1&1", "(T-1)&1", "T-(1&1)"),
+        ("T^1&1", "(T^1)&1", "T^(1&1)"),
+        ("1&T^T", "(1&T)^T", "1&(T^T)"),
+        ("!x0=1&x1=1", "(!x0=1)&x1=1", "!(x0=1&x1=1)"),
+        ("T-x0:=1*", "T-(x0:=1)*", "(T-x0:=1)*"),
+    ];
+    for (text, same, other) in cases {
+        for mut store in stores() {
+            let [text, same, other] = [text, same, other].map(|text| store.policy(text.as_bytes()));
+            assert_eq!(text.refusal(), None, "{same}: {text}");
+            assert_eq!(text, same);
+            assert_ne!(text, other);
+        }
     }
 }
 
@@ -68,6 +110,9 @@ fn an_atom_nests_32_deep() {
     assert_eq!(answer(1, &"(".repeat(32)), "r 7 32");
     assert_eq!(answer(1, &"(".repeat(33)), "r 9 32");
     assert_eq!(answer(1, &format!("){}", "(".repeat(33))), "r 7 0");
+    // The signs do not nest.
+    assert!(answer(1, &nested("T-(", 32)).starts_with('h'));
+    assert_eq!(answer(1, &nested("T-(", 33)), "r 9 98");
 }
 
 #[test]
@@ -104,6 +149,36 @@ fn operands_are_built_first_and_left_before_right() {
     let sum = ask("rel.union", &[product, zero]);
     assert_eq!(text.policy(b"!x1=0;x0:=1*+0"), Answer::Handle(sum));
     assert!(text.relation_nodes().eq(calls.relation_nodes()));
+}
+
+#[test]
+fn a_sign_builds_the_left_operand_the_right_one_and_its_operation() {
+    for (sign, name) in [("&", "rel.intersect"), ("-", "rel.difference"), ("^", "rel.xor")] {
+        for (mut text, mut calls) in stores().into_iter().zip(stores()) {
+            let mut ask = |name: &str, numbers: &[u32]| match calls.ask(name, numbers) {
+                Answer::Handle(handle) => handle,
+                other => panic!("{name}: {other}"),
+            };
+            let left = ask("rel.test", &[1, 0]);
+            let top = ask("top", &[]);
+            let assign = ask("assign", &[0, 1]);
+            let right = ask("rel.difference", &[top, assign]);
+            let both = ask(name, &[left, right]);
+            let policy = format!("x1=0{sign}(T-x0:=1)");
+            assert_eq!(text.policy(policy.as_bytes()), Answer::Handle(both), "{policy}");
+            assert!(text.relation_nodes().eq(calls.relation_nodes()), "{policy}");
+        }
+    }
+}
+
+#[test]
+fn the_full_relation_is_made_where_it_is_not_held() {
+    let [mut begun, mut bare] = stores();
+    let counts = begun.counts();
+    assert_eq!(begun.policy(b"T"), Answer::Handle(7));
+    assert_eq!(begun.counts(), counts);
+    assert_eq!(bare.policy(b"T"), Answer::Handle(3));
+    assert!(bare.relation_nodes().eq([[1; 4], [2; 4]]));
 }
 
 #[test]

@@ -1,4 +1,4 @@
-//! Policy texts: document 01's cases, each refusal, and tables that are equal or not.
+//! Policy texts: the cases of documents 01 and 02, each refusal, and tables that are equal or not.
 
 mod bench;
 
@@ -19,6 +19,38 @@ fn document_01s_texts_at_one_field() {
     assert_eq!(bench.judge("1"), Ok(3));
     assert_eq!(bench.judge("x0=5"), Err(At(NotPolicy, 3)));
     assert_eq!((bench.relations[RELATION_COUNT], bench.sets[SET_COUNT]), (5, 1));
+}
+
+#[test]
+fn document_02s_signs_at_one_field() {
+    let mut bench = Bench::new(1, 64, 8);
+    for (text, handle) in [("T", 4), ("T-1", 5), ("T-1&1", 2), ("T-(1&1)", 5), ("0;T^T", 4)] {
+        assert_eq!(bench.judge(text), Ok(handle), "{text}");
+    }
+    assert_eq!(bench.judge("!(1&T)"), Err(At(NotPredicate, 0)));
+    assert_eq!(bench.judge("!x0=1&!T"), Err(At(NotPredicate, 6)));
+    assert_eq!(bench.judge("x0=1&"), Err(At(NotPolicy, 5)));
+    assert_eq!(bench.judge("1&-1"), Err(At(NotPolicy, 2)));
+    assert_eq!(bench.judge("-1"), Err(At(NotPolicy, 0)));
+    assert_eq!(bench.judge("T="), Err(At(NotPolicy, 1)));
+    assert_eq!(bench.judge("x1=1-!T"), Err(At(NoField, 0)));
+    assert_eq!(bench.judge("!x0=1&T"), Ok(7));
+    assert_eq!((bench.relations[RELATION_COUNT], bench.sets[SET_COUNT]), (6, 1));
+    assert_eq!(Bench::new(0, 0, 0).judge("T"), Ok(1));
+}
+
+#[test]
+fn signs_make_what_the_store_does_not_hold() {
+    // `T` makes the full relations of levels 1 and 2, `T^T` the empty ones, `T-1` the identities and their complements.
+    let mut bench = Bench::bare(2, 64, 8);
+    assert_eq!(bench.judge("T"), Ok(3));
+    assert_eq!(bench.relations[RELATION_HEAD..][..8], [1, 1, 1, 1, 2, 2, 2, 2]);
+    assert_eq!(bench.judge("T^T"), Ok(5));
+    assert_eq!(bench.judge("T-1"), Ok(9));
+    // Of two places `T` takes both, and the empty relation would need two more.
+    let mut bench = Bench::bare(2, 2, 8);
+    assert_eq!(bench.judge("T-T"), Err(Store(UsedUp)));
+    assert_eq!(bench.judge("T&T"), Ok(3));
 }
 
 #[test]
@@ -106,6 +138,12 @@ fn equal_tables_have_one_handle_and_others_two() {
     assert!(same("!(x0=0+x1=1)", "!x0=0;!x1=1"));
     assert!(same("x2:=0;x2=0", "x2:=0"));
     assert!(same("(x0:=0+x1:=0)*", "1+x0:=0+x1:=0+x0:=0;x1:=0"));
+    // All but the test frames, which have 1 in fields 1 and 2.
+    assert!(same("1-x1=1;x2=1", "!x1=1+!x2=1"));
+    assert!(same("x0:=1-x1=1;x2=1;T", "(!x1=1+!x2=1);x0:=1"));
+    assert!(same("x0=0;x1:=1^x0=1;x1:=0", "x0=0;x1:=1+x0=1;x1:=0"));
+    assert!(same("x0=1&x1:=1", "x0=1;x1=1"));
+    assert!(!same("x0:=1-x1=1;x2=1", "x0:=1-x1=1;x2=1;T"));
     assert!(!same("x0=0;x1:=1+x0=1;x1:=0", "x0=0;x1:=1+x0=1;x2:=0"));
     assert!(!same("x0:=0;x0=1", "1"));
     assert!(!same("!x0=0", "x0=1;x1=0"));

@@ -9,13 +9,14 @@ use lib.Dec.{T, ltb→lt}
 use Rattle.model.specs.Meaning.{Rel, Relates, Same, Filter, Refuses, Without, Steps}
 use Rattle.model.specs.Operations.{difference}
 use Rattle.model.specs.Packets.{none, more}
-use Rattle.model.specs.Policies.{Policy, fail, skip, tests, assigns, negates, plus, seq, stars, meaning, predicate?, fields-below?, policy-program}
+use Rattle.model.specs.Policies.{Mix, both, minus, either, Policy, fail, skip, full, tests, assigns, negates, plus, mixes, seq, stars}
+use Rattle.model.specs.Policies.{Mixed, meaning, predicate?, fields-below?, mix-program, policy-program}
 use Rattle.model.specs.Store.{rel, Store}
 use Rattle.model.specs.WellFormed.{WellFormed}
 use Rattle.model.proofs.Bools.{and-T}
 use Rattle.model.proofs.Fields.{test-does, assign-does}
-use Rattle.model.proofs.Pairs.{relates-den, den-relates, relates-iff, relates-ext, union-relates, zero-relates, one-handle}
-use Rattle.model.proofs.Pointwise.{difference-does}
+use Rattle.model.proofs.Pairs.{relates-den, den-relates, relates-iff, relates-ext, union-relates, zero-relates, top-relates, one-handle}
+use Rattle.model.proofs.Pointwise.{difference-does, intersect-does, xor-does}
 use Rattle.model.proofs.Rules.{Does, post-does, bind-does}
 use Rattle.model.proofs.Sequence.{sequence-does}
 use Rattle.model.proofs.Star.{identity-does, star-does}
@@ -33,10 +34,18 @@ module _ {k : ℕ} where
         λ c. (c .0, λ r. c .1 (subst (λ z. R p z) (sym (c .0)) r)),
       )
 
+  mix-does : {R R′ : Rel} {S : Store} (m : Mix) (p q : ℕ) → WellFormed k S → Relates k R S p → Relates k R′ S q
+      → Does k S (mix-program m k p q) (Relates k (λ p q. Mixed m (R p q) (R′ p q)))
+  unfolding mix-program
+  mix-does both p q F A B = post-does (λ S h C. den-relates C) (intersect-does rel k p q F (omega arith) (relates-den A) (relates-den B))
+  mix-does minus p q F A B = post-does (λ S h C. den-relates C) (difference-does rel k p q F (omega arith) (relates-den A) (relates-den B))
+  mix-does either p q F A B = post-does (λ S h C. den-relates C) (xor-does rel k p q F (omega arith) (relates-den A) (relates-den B))
+
   policy-built : {S : Store} (x : Policy) → T (fields-below? k x) → WellFormed k S → Does k S (policy-program k x) (Relates k (meaning k x))
   unfolding meaning fields-below? policy-program
   policy-built fail o F = zero-relates k (omega arith) F (λ p q P Q r. r)
   policy-built skip o F = identity-does k (omega arith) F
+  policy-built full o F = top-relates k (omega arith) F (λ p q P Q. tt)
   policy-built (tests v b) o F = test-does F v b (ltb→lt v k o)
   policy-built (assigns v b) o F = assign-does F v b (ltb→lt v k o)
   policy-built (negates x) o F =
@@ -44,6 +53,9 @@ module _ {k : ℕ} where
   policy-built (plus x y) o F = let u = and-T (fields-below? k x) (fields-below? k y) o in
       bind-does (policy-built x (u .0) F) λ S₁ p E₁ F₁ A. bind-does (policy-built y (u .1) F₁) λ S₂ q E₂ F₂ B.
       union-relates k p q F₂ (omega arith) (relates-ext E₂ A) B
+  policy-built (mixes m x y) o F = let u = and-T (fields-below? k x) (fields-below? k y) o in
+      bind-does (policy-built x (u .0) F) λ S₁ p E₁ F₁ A. bind-does (policy-built y (u .1) F₁) λ S₂ q E₂ F₂ B.
+      mix-does m p q F₂ (relates-ext E₂ A) B
   policy-built (seq x y) o F = let u = and-T (fields-below? k x) (fields-below? k y) o in
       bind-does (policy-built x (u .0) F) λ S₁ p E₁ F₁ A. bind-does (policy-built y (u .1) F₁) λ S₂ q E₂ F₂ B.
       sequence-does k p q F₂ (omega arith) (relates-ext E₂ A) B
@@ -58,11 +70,16 @@ pub predicate-same : (k : ℕ) (x : Policy) → T (predicate? x) → (p q : List
 unfolding predicate? meaning
 predicate-same k fail e p q m = absurd m
 predicate-same k skip e p q m = m
+predicate-same k full e p q m = absurd e
 predicate-same k (tests v b) e p q m = m .0
 predicate-same k (assigns v b) e p q m = absurd e
 predicate-same k (negates x) e p q m = m .0
 predicate-same k (plus x y) e p q (inl m) = predicate-same k x (and-T (predicate? x) (predicate? y) e .0) p q m
 predicate-same k (plus x y) e p q (inr m) = predicate-same k y (and-T (predicate? x) (predicate? y) e .1) p q m
+predicate-same k (mixes both x y) e p q m = predicate-same k x (and-T (predicate? x) (predicate? y) e .0) p q (m .0)
+predicate-same k (mixes minus x y) e p q m = predicate-same k x (and-T (predicate? x) (predicate? y) e .0) p q (m .0)
+predicate-same k (mixes either x y) e p q (inl m) = predicate-same k x (and-T (predicate? x) (predicate? y) e .0) p q (m .0)
+predicate-same k (mixes either x y) e p q (inr m) = predicate-same k y (and-T (predicate? x) (predicate? y) e .1) p q (m .1)
 predicate-same k (seq x y) e p q m = let u = and-T (predicate? x) (predicate? y) e in
     predicate-same k x (u .0) p (m .0) (m .2) ∙ predicate-same k y (u .1) (m .0) q (m .3)
 predicate-same k (stars x) e p q m = absurd e

@@ -12,7 +12,7 @@ use Rattle.model.specs.Policies.{Policy, tests, assigns, policy-program}
 use Rattle.memory.specs.Performing.{Performs}
 use Rattle.memory.specs.declared.RunState.{RunState}
 use Rattle.policy_text.specs.XForms.{Field, x-form, x-forms}
-use Rattle.policy_text.specs.Grammar.{Bit, b-zero, b-one, Atom, a-zero, a-one, a-test, a-assign, a-neg, a-paren}
+use Rattle.policy_text.specs.Grammar.{Bit, b-zero, b-one, Atom, a-zero, a-one, a-full, a-test, a-assign, a-neg, a-paren}
 use Rattle.policy_build.specs.Items.{Past, ReadsNumber}
 use Rattle.policy_build.specs.Building.{built, Named, BuildsPart, Builds, after-atom}
 use Rattle.policy_build.specs.declared.items.Number.{Number}
@@ -27,6 +27,7 @@ after-name : (t : List ℕ) (at : ℕ) (rest : List ℕ) {d : ℕ} {v u : List �
     → After t at rest p
 after-name t at rest a-zero e h = absurd (omega (arith, ap (λ x. getD x 0 0) e))
 after-name t at rest a-one e h = absurd (omega (arith, ap (λ x. getD x 0 0) e))
+after-name t at rest a-full e h = absurd (omega (arith, ap (λ x. getD x 0 0) e))
 after-name t at rest (a-neg l A) e h = absurd (omega (arith, ap (λ x. getD x 0 0) e))
 after-name t at rest (a-paren l A) e h = absurd (omega (arith, ap (λ x. getD x 0 0) e))
 after-name t at rest (a-test {c = c} (x-form {f = f} F) B) e h =

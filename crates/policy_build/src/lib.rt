@@ -3,8 +3,11 @@ ghost use mathlib.Core.Path.{_≡_};
 ghost use Prim.Native.Nat.{_≤_};
 ghost use lib.ListN.{length, getD};
 ghost use Rattle.policy_text.specs.XForms.{x-forms};
-ghost use Rattle.policy_text.specs.Grammar.{Atom, Starred, Product, Sum};
-ghost use Rattle.policy_build.specs.Building.{Builds, BuildsText, Named, after-atom, after-starred, after-product, after-sum};
+ghost use Rattle.policy_text.specs.Grammar.{Atom, Starred, Product, Term, Sum};
+ghost use Rattle.policy_build.specs.Building.{Builds, BuildsText, Named, mix-of, after-atom, after-starred, after-product, after-term, after-sum};
+ghost use Rattle.model.specs.Store.{rel};
+ghost use Rattle.model.specs.Policies.{mix-program};
+ghost use Rattle.memory.specs.Performing.{Performs};
 use memory::RunState;
 
 mod items;
@@ -37,7 +40,7 @@ fn named(text: &[u8], at: usize, nodes: &mut [u32], work: &mut [u32], s: RunStat
     Built { made: r, end: end }
 }
 
-// `0`, `1`, a test or an assignment.
+// `0`, `1`, `T`, a test or an assignment.
 fn leaf(text: &[u8], at: usize, nodes: &mut [u32], work: &mut [u32], s: RunState, k: u8) -> Built
     requires { ⌜ (at ≤ length (now text)) × (¬ (getD (now text) at 0 ≡ 33)) × (¬ (getD (now text) at 0 ≡ 40)) ⌝ }
     ensures { λ r. ⌜ Builds (Atom x-forms) after-atom k (now (text .entry)) at s
@@ -51,6 +54,10 @@ fn leaf(text: &[u8], at: usize, nodes: &mut [u32], work: &mut [u32], s: RunState
     }
     if b == b'1' {
         let r = relations::one_at_depth(nodes, work, s, k);
+        return Built { made: r, end: next };
+    }
+    if b == b'T' {
+        let r = relations::top_at_depth(nodes, work, s, k);
         return Built { made: r, end: next };
     }
     named(text, next, nodes, work, s, k)
@@ -125,17 +132,63 @@ fn product(text: &[u8], at: usize, nodes: &mut [u32], work: &mut [u32], s: RunSt
     }
 }
 
-// Products joined by `+`.
-fn sum(text: &[u8], at: usize, nodes: &mut [u32], work: &mut [u32], s: RunState, k: u8) -> Built
+// The operation of a sign, `&`, `-` or `^`.
+fn mixed(
+    nodes: &mut [u32],
+    work: &mut [u32],
+    s: RunState,
+    k: u8,
+    sign: u8,
+    a: u32,
+    b: u32,
+) -> RunState
+    ensures { λ r. ⌜ Performs rel (mix-program (mix-of sign) k a b) s
+        (now (nodes .entry)) (now (nodes .exit)) (now (work .entry)) (now (work .exit)) r ⌝ }
+{
+    if sign == b'&' {
+        return relations::intersect(nodes, work, s, k, a, b);
+    }
+    if sign == b'-' {
+        return relations::difference(nodes, work, s, k, a, b);
+    }
+    relations::xor(nodes, work, s, k, a, b)
+}
+
+// Products joined by `&`, `-` and `^`.
+fn term(text: &[u8], at: usize, nodes: &mut [u32], work: &mut [u32], s: RunState, k: u8) -> Built
     requires { ⌜ at ≤ length (now text) ⌝ }
-    ensures { λ r. ⌜ Builds (Sum x-forms) after-sum k (now (text .entry)) at s
+    ensures { λ r. ⌜ Builds (Term x-forms) after-term k (now (text .entry)) at s
         (now (nodes .entry)) (now (nodes .exit)) (now (work .entry)) (now (work .exit)) r ⌝ }
 {
     let p = product(text, at, nodes, work, s, k);
     let mut made = p.made;
     let mut end = p.end;
-    while crate::items::byte(text, end) == b'+' {
+    loop {
+        let sign = crate::items::byte(text, end);
+        if !policy_text::mixes(sign) {
+            return Built {
+                made: made,
+                end: end,
+            };
+        }
         let q = product(text, end + 1, nodes, work, made, k);
+        let right = q.made;
+        made = mixed(nodes, work, right, k, sign, made.h, right.h);
+        end = q.end;
+    }
+}
+
+// Terms joined by `+`.
+fn sum(text: &[u8], at: usize, nodes: &mut [u32], work: &mut [u32], s: RunState, k: u8) -> Built
+    requires { ⌜ at ≤ length (now text) ⌝ }
+    ensures { λ r. ⌜ Builds (Sum x-forms) after-sum k (now (text .entry)) at s
+        (now (nodes .entry)) (now (nodes .exit)) (now (work .entry)) (now (work .exit)) r ⌝ }
+{
+    let p = term(text, at, nodes, work, s, k);
+    let mut made = p.made;
+    let mut end = p.end;
+    while crate::items::byte(text, end) == b'+' {
+        let q = term(text, end + 1, nodes, work, made, k);
         let right = q.made;
         made = relations::union(nodes, work, right, k, made.h, right.h);
         end = q.end;

@@ -1,34 +1,47 @@
--- The operand of a `!` has neither `:` nor `*` exactly when its policy is a predicate; by induction on derivations.
+-- The operand of a `!` has no `:`, `*` or `T` exactly when its policy is a predicate; by induction on derivations.
 use mathlib.Core.Path.{_≡_, refl, sym, ap, _∙_}
 use Prim.Native.Nat.{ℕ, suc, _≤_, _<_}
 use native.Mathlib.Numerals.{add-one}
 use native.Mathlib.Omega.{arith}
 use mathlib.Core.List.{List, [], _∷_, _++_, append-assoc}
 use mathlib.Core.Bool.{Bool, true, false, cond, _&&_, and-true, and-false, and-assoc}
-use mathlib.Core.Logic.{inl, inr}
+use mathlib.Core.Logic.{_⊎_, inl, inr}
 use lib.Dec.{eqb}
 use borrow.Author.Tests.{ne-eqb}
-use Rattle.model.specs.Policies.{Policy, predicate?}
+use Rattle.model.specs.Policies.{Mix, Policy, predicate?}
 use Rattle.policy_text.specs.Lexicon.{Lexicon, Lawful, Letter}
-use Rattle.policy_text.specs.Grammar.{Bit, b-zero, b-one}
-use Rattle.policy_text.specs.Grammar.{Atom, a-zero, a-one, a-test, a-assign, a-neg, a-paren, s-atom, s-star}
-use Rattle.policy_text.specs.Grammar.{p-one, p-seq, u-one, u-plus}
+use Rattle.policy_text.specs.Grammar.{Bit, b-zero, b-one, MixSign, m-both, m-minus, m-either}
+use Rattle.policy_text.specs.Grammar.{Atom, a-zero, a-one, a-full, a-test, a-assign, a-neg, a-paren, s-atom, s-star}
+use Rattle.policy_text.specs.Grammar.{p-one, p-seq, t-one, t-mix, u-one, u-plus}
 use Rattle.policy_text.specs.Reading.{test?, open-after, clean-inside?, clean?}
-use Rattle.policy_text.proofs.Spellings.{word-above, word-not, whole-begins, prefix}
+use Rattle.policy_text.proofs.Spellings.{word-above, word-not, word-no-full, whole-begins, prefix}
 use Rattle.policy_text.proofs.Passes.{inside-closed}
 
 -- one byte inside a parenthesis
 inside-byte : (b : ℕ) (s : List ℕ) (n : ℕ)
-    → clean-inside? (b ∷ s) (suc n) ≡ cond (eqb b 58) false (cond (eqb b 42) false (clean-inside? s (open-after b (suc n))))
+    → clean-inside? (b ∷ s) (suc n) ≡ cond (eqb b 58) false (cond (eqb b 42) false (cond (eqb b 84) false (clean-inside? s (open-after b (suc n)))))
 unfolding clean-inside?
 inside-byte b s n = simp (ne-eqb (suc n) 0 (λ e. omega arith))
 
--- a byte that is no `:`, `*`, `(` or `)`
-inside-plain : (b : ℕ) (s : List ℕ) (n : ℕ) → 42 < b → (b ≡ 58 → ⊥) → clean-inside? (b ∷ s) (suc n) ≡ clean-inside? s (suc n)
+-- a byte that is no `:`, `*`, `T`, `(` or `)`
+abbrev Plain : ℕ → Type 0
+Plain b = (b < 40 ⊎ 42 < b) × (b ≡ 58 → ⊥) × (b ≡ 84 → ⊥)
+
+apart : {b c : ℕ} → 40 ≤ c → c ≤ 42 → b < 40 ⊎ 42 < b → b ≡ c → ⊥
+apart h k (inl l) e = omega arith
+apart h k (inr l) e = omega arith
+
+inside-plain : (b : ℕ) (s : List ℕ) (n : ℕ) → Plain b → clean-inside? (b ∷ s) (suc n) ≡ clean-inside? s (suc n)
 unfolding open-after
-inside-plain b s n h k =
+inside-plain b s n (h, k, l) =
     inside-byte b s n
-    ∙ simp (ne-eqb b 58 k, ne-eqb b 42 (λ e. omega arith), ne-eqb b 40 (λ e. omega arith), ne-eqb b 41 (λ e. omega arith))
+    ∙ simp (
+      ne-eqb b 58 k,
+      ne-eqb b 84 l,
+      ne-eqb b 42 (apart (omega arith) (omega arith) h),
+      ne-eqb b 40 (apart (omega arith) (omega arith) h),
+      ne-eqb b 41 (apart (omega arith) (omega arith) h),
+    )
 
 inside-open : (s : List ℕ) (n : ℕ) → clean-inside? (40 ∷ s) (suc n) ≡ clean-inside? s (suc (suc n))
 unfolding open-after
@@ -39,8 +52,8 @@ unfolding open-after
 inside-close s n = inside-byte 41 s n ∙ ap (clean-inside? s) (omega arith)
 
 inside-bit : {c : ℕ} {v : Bool} (s : List ℕ) (n : ℕ) → Bit c v → clean-inside? (c ∷ s) (suc n) ≡ clean-inside? s (suc n)
-inside-bit s n b-zero = inside-plain 48 s n (omega arith) (λ e. omega arith)
-inside-bit s n b-one = inside-plain 49 s n (omega arith) (λ e. omega arith)
+inside-bit s n b-zero = inside-plain 48 s n (inr (omega arith), (λ e. omega arith), λ e. omega arith)
+inside-bit s n b-one = inside-plain 49 s n (inr (omega arith), (λ e. omega arith), λ e. omega arith)
 
 module _ {X : Lexicon} (laws : Lawful X) where
   -- the bytes of a spelling s, of which r are left
@@ -49,7 +62,7 @@ module _ {X : Lexicon} (laws : Lawful X) where
   inside-spelt s (b ∷ r) x n h =
       let k : X .begins? ((s ++ (b ∷ [])) ++ r) ≡ true = rw append-assoc h in
       let w = laws .word s b (prefix laws (s ++ (b ∷ [])) r k) in
-      inside-plain b (r ++ x) n (word-above w) (λ e. word-not w (inr e)) ∙ inside-spelt (s ++ (b ∷ [])) r x n k
+      inside-plain b (r ++ x) n (inr (word-above w), (λ e. word-not w (inr e)), word-no-full w) ∙ inside-spelt (s ++ (b ∷ [])) r x n k
 
   test-word : (b : ℕ) (s : List ℕ) → (b ≡ 58 → ⊥) → (b ≡ 61 → ⊥) → test? (b ∷ s) ≡ test? s
   unfolding test?
@@ -92,9 +105,18 @@ module _ {X : Lexicon} (laws : Lawful X) where
   case-digit : (b : ℕ) (p : Policy) → 48 ≤ b → b ≤ 57 → predicate? p ≡ true → Operand (b ∷ []) p
   unfolding clean?
   case-digit b p h k e = record {
-    inside = λ r n. inside-plain b r n (omega arith) (λ z. omega arith) ∙ simp e;
-    alone = λ r. simp (ne-eqb b 40 (λ z. omega arith), no-start b (λ z. omega (arith, z .0)), ne-eqb b 33 (λ z. omega arith)) (sym e);
+    inside = λ r n. inside-plain b r n (inr (omega arith), (λ z. omega arith), λ z. omega arith) ∙ simp e;
+    alone = λ r. simp (
+      ne-eqb b 40 (λ z. omega arith),
+      no-start b (λ z. omega (arith, z .0)),
+      ne-eqb b 33 (λ z. omega arith),
+      ne-eqb b 84 (λ z. omega arith),
+    ) (sym e);
   }
+
+  case-full : Operand (84 ∷ []) Policy.full
+  unfolding clean? predicate?
+  case-full = record { inside = λ r n. inside-byte 84 r n; alone = λ r. simp (no-start 84 (λ z. omega (arith, z .0))) refl }
 
   case-test : {m c : ℕ} {s : List ℕ} {v : Bool} → X .Spells s m → Bit c v → Operand (s ++ (61 ∷ c ∷ [])) (Policy.tests m v)
   unfolding predicate? test?
@@ -102,7 +124,7 @@ module _ {X : Lexicon} (laws : Lawful X) where
     inside = λ r n.
         ap (λ (w : List ℕ). clean-inside? w (suc n)) (append-assoc s (61 ∷ c ∷ []) r)
         ∙ inside-spelt [] s (61 ∷ c ∷ r) n (whole-begins laws s m g)
-        ∙ inside-plain 61 (c ∷ r) n (omega arith) (λ e. omega arith)
+        ∙ inside-plain 61 (c ∷ r) n (inr (omega arith), (λ e. omega arith), λ e. omega arith)
         ∙ inside-bit r n b;
     alone = λ r. ap (clean? X) (append-assoc s (61 ∷ c ∷ []) r) ∙ clean-spelt s (61 ∷ c ∷ r) m g;
   }
@@ -151,27 +173,37 @@ module _ {X : Lexicon} (laws : Lawful X) where
   }
 
   -- two parts and the byte that joins them
-  case-join : {s t : List ℕ} {p q : Policy} (b : ℕ) → 42 < b → (b ≡ 58 → ⊥) → Inside s p → Inside t q → (r : List ℕ) (n : ℕ)
+  case-join : {s t : List ℕ} {p q : Policy} (b : ℕ) → Plain b → Inside s p → Inside t q → (r : List ℕ) (n : ℕ)
       → clean-inside? ((s ++ (b ∷ t)) ++ r) (suc n) ≡ (predicate? p && predicate? q) && clean-inside? r (suc n)
-  case-join {s = s} {t = t} {p = p} {q = q} b h k x y r n =
+  case-join {s = s} {t = t} {p = p} {q = q} b h x y r n =
       ap (λ (w : List ℕ). clean-inside? w (suc n)) (append-assoc s (b ∷ t) r)
       ∙ x .inside (b ∷ (t ++ r)) n
-      ∙ ap (λ (c : Bool). predicate? p && c) (inside-plain b (t ++ r) n h k ∙ y .inside r n)
+      ∙ ap (λ (c : Bool). predicate? p && c) (inside-plain b (t ++ r) n h ∙ y .inside r n)
       ∙ sym (and-assoc (predicate? p) (predicate? q) (clean-inside? r (suc n)))
 
   case-seq : {s t : List ℕ} {p q : Policy} → Inside s p → Inside t q → Inside (s ++ (59 ∷ t)) (Policy.seq p q)
   unfolding predicate?
-  case-seq x y = record { inside = λ r n. case-join 59 (omega arith) (λ e. omega arith) x y r n }
+  case-seq x y = record { inside = λ r n. case-join 59 (inr (omega arith), (λ e. omega arith), λ e. omega arith) x y r n }
+
+  sign-plain : {c : ℕ} {m : Mix} → MixSign c m → Plain c
+  sign-plain m-both = (inl (omega arith), (λ e. omega arith), λ e. omega arith)
+  sign-plain m-minus = (inr (omega arith), (λ e. omega arith), λ e. omega arith)
+  sign-plain m-either = (inr (omega arith), (λ e. omega arith), λ e. omega arith)
+
+  case-mix : {c : ℕ} {s t : List ℕ} {m : Mix} {p q : Policy} → MixSign c m → Inside s p → Inside t q → Inside (s ++ (c ∷ t)) (Policy.mixes m p q)
+  unfolding predicate?
+  case-mix {c = c} g x y = record { inside = λ r n. case-join c (sign-plain g) x y r n }
 
   case-plus : {s t : List ℕ} {p q : Policy} → Inside s p → Inside t q → Inside (s ++ (43 ∷ t)) (Policy.plus p q)
   unfolding predicate?
-  case-plus x y = record { inside = λ r n. case-join 43 (omega arith) (λ e. omega arith) x y r n }
+  case-plus x y = record { inside = λ r n. case-join 43 (inr (omega arith), (λ e. omega arith), λ e. omega arith) x y r n }
 
   operand : {d : ℕ} {s : List ℕ} {p : Policy} → Atom X d s p → Operand s p
   unfolding predicate?
-  operand a = elim a as (λ d s p x. Operand s p) (λ d s p x. Inside s p) (λ d s p x. Inside s p) (λ d s p x. Inside s p) [
+  operand a = elim a as (λ d s p x. Operand s p) (λ d s p x. Inside s p) (λ d s p x. Inside s p) (λ d s p x. Inside s p) (λ d s p x. Inside s p) [
     | a-zero ↦ case-digit 48 Policy.fail (omega arith) (omega arith) refl
     | a-one ↦ case-digit 49 Policy.skip (omega arith) (omega arith) refl
+    | a-full ↦ case-full
     | a-test f b ↦ case-test f b
     | a-assign f b ↦ case-assign f b
     | a-neg l (x → h) ↦ case-neg h
@@ -180,6 +212,8 @@ module _ {X : Lexicon} (laws : Lawful X) where
     | s-star (x → h) ↦ case-star h
     | p-one (x → h) ↦ h
     | p-seq (x → h) (y → k) ↦ case-seq h k
+    | t-one (x → h) ↦ h
+    | t-mix g (x → h) (y → k) ↦ case-mix g h k
     | u-one (x → h) ↦ h
     | u-plus (x → h) (y → k) ↦ case-plus h k
   ]

@@ -5,12 +5,13 @@ use native.Mathlib.Omega.{arith}
 use mathlib.Core.List.{List, [], _∷_, _++_, append-assoc, append-nil}
 use mathlib.Core.Bool.{Bool, true, false}
 use borrow.Author.Tests.{ne-eqb, lt-ltb}
-use Rattle.model.specs.Policies.{Policy}
+use Rattle.model.specs.Policies.{Mix, Policy}
 use mathlib.Core.Logic.{inl, inr}
 use Rattle.policy_text.specs.Lexicon.{Lexicon, Lawful}
-use Rattle.policy_text.specs.Grammar.{Bit, b-zero, b-one, a-zero, a-one, a-test, a-assign, a-neg, a-paren, s-atom}
-use Rattle.policy_text.specs.Grammar.{s-star, p-one, p-seq, Sum, u-one, u-plus}
-use Rattle.policy_text.specs.Machine.{Acc, nothing, sofar, Frame, paren, spelt, colon, bit, State, need, inside, post}
+use Rattle.policy_text.specs.Grammar.{Bit, b-zero, b-one, MixSign, m-both, m-minus, m-either, a-zero, a-one, a-full, a-test, a-assign, a-neg, a-paren}
+use Rattle.policy_text.specs.Grammar.{s-atom, s-star, p-one, p-seq, t-one, t-mix, Sum, u-one, u-plus}
+use Rattle.policy_text.specs.Machine.{Acc, nothing, sofar, Left, opening, joining, sum-before, join-mix, join-term}
+use Rattle.policy_text.specs.Machine.{Frame, paren, spelt, colon, bit, State, need, inside, post}
 use Rattle.policy_text.specs.Machine.{ByteStep, go, accept, negs, join-seq, join-plus, nesting, leaf, after-name}
 use Rattle.policy_text.specs.Machine.{mid-step, mid-go, close, byte-step, final, onward, scan, start, reads}
 use Rattle.policy_text.proofs.Sound.{accept-same}
@@ -22,23 +23,28 @@ module _ {X : Lexicon} (laws : Lawful X) where
   scan-cons L q q′ at b r e = ap (λ (k : ByteStep). onward k (λ z. scan X L z (at + 1) r) at) e
 
   record AdvAtom (d : ℕ) (s : List ℕ) (p : Policy) : Type 0 where
-    adv : (L : ℕ) (sa pa : Acc) (n : ℕ) (σ : List Frame) (at : ℕ) (r : List ℕ) → n + nesting σ + d ≤ L
+    adv : (L : ℕ) (sa : Left) (pa : Acc) (n : ℕ) (σ : List Frame) (at : ℕ) (r : List ℕ) → n + nesting σ + d ≤ L
         → (e : ℕ) × (scan X L (need sa pa n σ) at (s ++ r) ≡ scan X L (post (negs n p) sa pa σ) e r)
 
   record AdvStarred (d : ℕ) (s : List ℕ) (p : Policy) : Type 0 where
-    adv : (L : ℕ) (sa pa : Acc) (σ : List Frame) (at : ℕ) (r : List ℕ) → nesting σ + d ≤ L
+    adv : (L : ℕ) (sa : Left) (pa : Acc) (σ : List Frame) (at : ℕ) (r : List ℕ) → nesting σ + d ≤ L
         → (e : ℕ) × (scan X L (need sa pa 0 σ) at (s ++ r) ≡ scan X L (post p sa pa σ) e r)
 
   record AdvProduct (d : ℕ) (s : List ℕ) (p : Policy) : Type 0 where
-    adv : (L : ℕ) (sa : Acc) (σ : List Frame) (at : ℕ) (r : List ℕ) → nesting σ + d ≤ L
+    adv : (L : ℕ) (sa : Left) (σ : List Frame) (at : ℕ) (r : List ℕ) → nesting σ + d ≤ L
         → (pa : Acc) × (v : Policy) × (e : ℕ) × (join-seq pa v ≡ p) × (scan X L (need sa nothing 0 σ) at (s ++ r) ≡ scan X L (post v sa pa σ) e r)
+
+  record AdvTerm (d : ℕ) (s : List ℕ) (p : Policy) : Type 0 where
+    adv : (L : ℕ) (sa : Acc) (σ : List Frame) (at : ℕ) (r : List ℕ) → nesting σ + d ≤ L
+        → (sb : Left) × (pa : Acc) × (v : Policy) × (e : ℕ) × (sum-before sb ≡ sa) × (join-mix sb (join-seq pa v) ≡ p)
+        × (scan X L (need (opening sa) nothing 0 σ) at (s ++ r) ≡ scan X L (post v sb pa σ) e r)
 
   record AdvSum (d : ℕ) (s : List ℕ) (p : Policy) : Type 0 where
     adv : (L : ℕ) (σ : List Frame) (at : ℕ) (r : List ℕ) → nesting σ + d ≤ L
-        → (sa : Acc) × (pa : Acc) × (v : Policy) × (e : ℕ) × (join-plus sa (join-seq pa v) ≡ p) ×
-        (scan X L (need nothing nothing 0 σ) at (s ++ r) ≡ scan X L (post v sa pa σ) e r)
+        → (sa : Left) × (pa : Acc) × (v : Policy) × (e : ℕ) × (join-term sa (join-seq pa v) ≡ p)
+        × (scan X L (need (opening nothing) nothing 0 σ) at (s ++ r) ≡ scan X L (post v sa pa σ) e r)
 
-  module _ (L : ℕ) (sa pa : Acc) (n : ℕ) (σ : List Frame) where
+  module _ (L : ℕ) (sa : Left) (pa : Acc) (n : ℕ) (σ : List Frame) where
     -- the rest of a spelling
     pub adv-spelt : (s w : List ℕ) (at : ℕ) (r : List ℕ) → X .begins? (s ++ w) ≡ true
         → (e : ℕ) × (scan X L (inside (spelt s) sa pa n σ) at (w ++ r) ≡ scan X L (inside (spelt (s ++ w)) sa pa n σ) e r)
@@ -66,6 +72,7 @@ module _ {X : Lexicon} (laws : Lawful X) where
               (simp (
                 ne-eqb b 48 (λ e. omega (arith, l .0)),
                 ne-eqb b 49 (λ e. omega (arith, l .0)),
+                ne-eqb b 84 (λ e. omega (arith, l .0)),
                 ne-eqb b 33 (λ e. omega (arith, l .0)),
                 ne-eqb b 40 (λ e. omega (arith, l .0)),
                 i,
@@ -116,6 +123,10 @@ module _ {X : Lexicon} (laws : Lawful X) where
   unfolding byte-step
   case-one = record { adv = λ L sa pa n σ at r h. (at + 1, scan-cons L (need sa pa n σ) (post (negs n Policy.skip) sa pa σ) at 49 r refl) }
 
+  case-full : {d : ℕ} → AdvAtom d (84 ∷ []) Policy.full
+  unfolding byte-step
+  case-full = record { adv = λ L sa pa n σ at r h. (at + 1, scan-cons L (need sa pa n σ) (post (negs n Policy.full) sa pa σ) at 84 r refl) }
+
   case-neg : {d e : ℕ} {s : List ℕ} {p : Policy} → e < d → AdvAtom e s p → AdvAtom d (33 ∷ s) (Policy.negates p)
   unfolding byte-step negs
   case-neg {s = s} l a = record {
@@ -130,9 +141,9 @@ module _ {X : Lexicon} (laws : Lawful X) where
     adv = λ L sa pa n σ at r h.
         let u = a .adv L (paren sa pa n ∷ σ) (at + 1) (41 ∷ r) (omega arith) in (
           u .3 + 1,
-          scan-cons L (need sa pa n σ) (need nothing nothing 0 (paren sa pa n ∷ σ)) at 40 ((s ++ (41 ∷ [])) ++ r)
+          scan-cons L (need sa pa n σ) (need (opening nothing) nothing 0 (paren sa pa n ∷ σ)) at 40 ((s ++ (41 ∷ [])) ++ r)
               (simp (lt-ltb (n + nesting σ) L (omega arith)))
-              ∙ ap (λ (w : List ℕ). scan X L (need nothing nothing 0 (paren sa pa n ∷ σ)) (at + 1) w) (append-assoc s (41 ∷ []) r)
+              ∙ ap (λ (w : List ℕ). scan X L (need (opening nothing) nothing 0 (paren sa pa n ∷ σ)) (at + 1) w) (append-assoc s (41 ∷ []) r)
               ∙ u .5
               ∙ scan-cons L (post (u .2) (u .0) (u .1) (paren sa pa n ∷ σ)) (post (negs n p) sa pa σ) (u .3) 41 r
               (ap (λ (k : Policy). go (post (negs n k) sa pa σ)) (u .4)),
@@ -174,43 +185,90 @@ module _ {X : Lexicon} (laws : Lawful X) where
         );
   }
 
-  case-product : {d : ℕ} {s : List ℕ} {p : Policy} → AdvProduct d s p → AdvSum d s p
-  unfolding join-plus
-  case-product a = record { adv = λ L σ at r h. let u = a .adv L nothing σ at r h in (nothing, u .0, u .1, u .2, u .3, u .4) }
+  case-product : {d : ℕ} {s : List ℕ} {p : Policy} → AdvProduct d s p → AdvTerm d s p
+  unfolding sum-before join-mix
+  case-product a = record { adv = λ L sa σ at r h. let u = a .adv L (opening sa) σ at r h in (opening sa, u .0, u .1, u .2, refl, u .3, u .4) }
 
-  case-plus : {d : ℕ} {s t : List ℕ} {p q : Policy} → AdvSum d s p → AdvProduct d t q → AdvSum d (s ++ (43 ∷ t)) (Policy.plus p q)
-  unfolding byte-step join-plus
-  case-plus {s = s} {t = t} {p = p} {q = q} a b = record {
-    adv = λ L σ at r h.
-        let u = a .adv L σ at (43 ∷ (t ++ r)) h in
-        let w = b .adv L (sofar p) σ (u .3 + 1) r h in (
-          sofar p,
+  -- a sign after a term
+  step-mix : {c : ℕ} {m : Mix} (L : ℕ) (v : Policy) (sa : Left) (pa : Acc) (σ : List Frame) → MixSign c m
+      → byte-step X L (post v sa pa σ) c ≡ go (need (joining (sum-before sa) m (join-mix sa (join-seq pa v))) nothing 0 σ)
+  unfolding byte-step
+  step-mix L v sa pa σ m-both = refl
+  step-mix L v sa pa σ m-minus = refl
+  step-mix L v sa pa σ m-either = refl
+
+  case-mix : {d c : ℕ} {s t : List ℕ} {m : Mix} {p q : Policy} → MixSign c m → AdvTerm d s p → AdvProduct d t q → AdvTerm d (s ++ (c ∷ t)) (Policy.mixes m p q)
+  unfolding sum-before join-mix
+  case-mix {c = c} {s = s} {t = t} {m = m} {p = p} {q = q} g a b = record {
+    adv = λ L sa σ at r h.
+        let u = a .adv L sa σ at (c ∷ (t ++ r)) h in
+        let w = b .adv L (joining sa m p) σ (u .3 + 1) r h in (
+          joining sa m p,
           w .0,
           w .1,
           w .2,
-          ap (λ (k : Policy). Policy.plus p k) (w .3),
-          ap (λ (x : List ℕ). scan X L (need nothing nothing 0 σ) at x) (append-assoc s (43 ∷ t) r)
-              ∙ u .5 ∙ scan-cons L (post (u .2) (u .0) (u .1) σ) (need (sofar p) nothing 0 σ) (u .3) 43 (t ++ r)
-              (ap (λ (k : Policy). go (need (sofar k) nothing 0 σ)) (u .4))
+          refl,
+          ap (λ (k : Policy). Policy.mixes m p k) (w .3),
+          ap (λ (x : List ℕ). scan X L (need (opening sa) nothing 0 σ) at x) (append-assoc s (c ∷ t) r)
+              ∙ u .6 ∙ scan-cons L (post (u .2) (u .0) (u .1) σ) (need (joining sa m p) nothing 0 σ) (u .3) c (t ++ r)
+              (step-mix L (u .2) (u .0) (u .1) σ g
+              ∙ ap (λ (k : Acc). go (need (joining k m (join-mix (u .0) (join-seq (u .1) (u .2)))) nothing 0 σ)) (u .4)
+              ∙ ap (λ (k : Policy). go (need (joining sa m k) nothing 0 σ)) (u .5))
               ∙ w .4,
         );
   }
 
+  case-term : {d : ℕ} {s : List ℕ} {p : Policy} → AdvTerm d s p → AdvSum d s p
+  unfolding join-plus join-term
+  case-term a = record {
+    adv = λ L σ at r h.
+        let u = a .adv L nothing σ at r h in (
+          u .0,
+          u .1,
+          u .2,
+          u .3,
+          ap (λ (k : Acc). join-plus k (join-mix (u .0) (join-seq (u .1) (u .2)))) (u .4) ∙ u .5,
+          u .6,
+        );
+  }
+
+  case-plus : {d : ℕ} {s t : List ℕ} {p q : Policy} → AdvSum d s p → AdvTerm d t q → AdvSum d (s ++ (43 ∷ t)) (Policy.plus p q)
+  unfolding byte-step join-plus join-term
+  case-plus {s = s} {t = t} {p = p} {q = q} a b = record {
+    adv = λ L σ at r h.
+        let u = a .adv L σ at (43 ∷ (t ++ r)) h in
+        let w = b .adv L (sofar p) σ (u .3 + 1) r h in (
+          w .0,
+          w .1,
+          w .2,
+          w .3,
+          ap (λ (k : Acc). join-plus k (join-mix (w .0) (join-seq (w .1) (w .2)))) (w .4) ∙ ap (λ (k : Policy). Policy.plus p k) (w .5),
+          ap (λ (x : List ℕ). scan X L (need (opening nothing) nothing 0 σ) at x) (append-assoc s (43 ∷ t) r)
+              ∙ u .5 ∙ scan-cons L (post (u .2) (u .0) (u .1) σ) (need (opening (sofar p)) nothing 0 σ) (u .3) 43 (t ++ r)
+              (ap (λ (k : Policy). go (need (opening (sofar k)) nothing 0 σ)) (u .4))
+              ∙ w .6,
+        );
+  }
+
   adv-sum : {d : ℕ} {s : List ℕ} {p : Policy} → Sum X d s p → AdvSum d s p
-  adv-sum a = elim a as (λ d s p x. AdvAtom d s p) (λ d s p x. AdvStarred d s p) (λ d s p x. AdvProduct d s p) (λ d s p x. AdvSum d s p) [
-    | a-zero ↦ case-zero
-    | a-one ↦ case-one
-    | a-test f b ↦ case-test f b
-    | a-assign f b ↦ case-assign f b
-    | a-neg l (x → h) ↦ case-neg l h
-    | a-paren l (x → h) ↦ case-paren l h
-    | s-atom (x → h) ↦ case-atom h
-    | s-star (x → h) ↦ case-star h
-    | p-one (x → h) ↦ case-single h
-    | p-seq (x → h) (y → k) ↦ case-seq h k
-    | u-one (x → h) ↦ case-product h
-    | u-plus (x → h) (y → k) ↦ case-plus h k
-  ]
+  adv-sum a = elim a as (λ d s p x. AdvAtom d s p) (λ d s p x. AdvStarred d s p) (λ d s p x. AdvProduct d s p) (λ d s p x. AdvTerm d s p)
+      (λ d s p x. AdvSum d s p) [
+        | a-zero ↦ case-zero
+        | a-one ↦ case-one
+        | a-full ↦ case-full
+        | a-test f b ↦ case-test f b
+        | a-assign f b ↦ case-assign f b
+        | a-neg l (x → h) ↦ case-neg l h
+        | a-paren l (x → h) ↦ case-paren l h
+        | s-atom (x → h) ↦ case-atom h
+        | s-star (x → h) ↦ case-star h
+        | p-one (x → h) ↦ case-single h
+        | p-seq (x → h) (y → k) ↦ case-seq h k
+        | t-one (x → h) ↦ case-product h
+        | t-mix g (x → h) (y → k) ↦ case-mix g h k
+        | u-one (x → h) ↦ case-term h
+        | u-plus (x → h) (y → k) ↦ case-plus h k
+      ]
 
   -- at any limit that is no lower than the nesting
   pub complete-at : {d : ℕ} {t : List ℕ} {p : Policy} (L : ℕ) → d ≤ L → Sum X d t p → scan X L start 0 t ≡ accept p

@@ -8,11 +8,11 @@ use mathlib.Core.Bool.{Bool, true, false, not, _&&_, and-true, and-assoc, Bool·
 use mathlib.Core.Logic.{inl, inr}
 use lib.Dec.{leb, ltb}
 use borrow.Author.Tests.{ne-eqb, leb-true, leb-false, lt-ltb, le-ltb}
-use Rattle.model.specs.Policies.{Policy, predicate?, negates-predicates?, fields-below?}
+use Rattle.model.specs.Policies.{Mix, Policy, predicate?, negates-predicates?, fields-below?}
 use Rattle.policy_text.specs.Lexicon.{Lexicon, Lawful, Letter, Bounds}
-use Rattle.policy_text.specs.Grammar.{Bit, b-zero, b-one}
-use Rattle.policy_text.specs.Grammar.{Atom, a-zero, a-one, a-test, a-assign, a-neg, a-paren, s-atom, s-star}
-use Rattle.policy_text.specs.Grammar.{p-one, p-seq, Sum, u-one, u-plus}
+use Rattle.policy_text.specs.Grammar.{Bit, b-zero, b-one, MixSign, m-both, m-minus, m-either}
+use Rattle.policy_text.specs.Grammar.{Atom, a-zero, a-one, a-full, a-test, a-assign, a-neg, a-paren, s-atom, s-star}
+use Rattle.policy_text.specs.Grammar.{p-one, p-seq, t-one, t-mix, Sum, u-one, u-plus}
 use Rattle.policy_text.specs.Reading.{clean?, offends?}
 use Rattle.policy_text.proofs.Clean.{clean-atom}
 use Rattle.policy_text.proofs.Spellings.{word-above, whole-begins, prefix, no-letter}
@@ -44,10 +44,12 @@ module _ {X : Lexicon} (laws : Lawful X) where
     inner : (a : ℕ) (s : List ℕ) (b : ℕ) (r : List ℕ) → X .begins? (a ∷ (s ++ (b ∷ []))) ≡ true → P (b ∷ r) ≡ false
     fail : R Policy.fail ≡ true
     skip : R Policy.skip ≡ true
+    full : R Policy.full ≡ true
     tests : {n : ℕ} {f : List ℕ} (v : Bool) (s : List ℕ) → X .Spells f n → R (Policy.tests n v) ≡ not (P (f ++ (61 ∷ s)))
     assigns : {n : ℕ} {f : List ℕ} (v : Bool) (s : List ℕ) → X .Spells f n → R (Policy.assigns n v) ≡ not (P (f ++ (58 ∷ s)))
     negates : {d : ℕ} {s : List ℕ} {p : Policy} (r : List ℕ) → Atom X d s p → R (Policy.negates p) ≡ not (P (33 ∷ (s ++ r))) && R p
     plus : (p q : Policy) → R (Policy.plus p q) ≡ R p && R q
+    mixes : (m : Mix) (p q : Policy) → R (Policy.mixes m p q) ≡ R p && R q
     seq : (p q : Policy) → R (Policy.seq p q) ≡ R p && R q
     stars : (p : Policy) → R (Policy.stars p) ≡ R p
 
@@ -118,12 +120,19 @@ module _ {X : Lexicon} (laws : Lawful X) where
         ∙ ap (λ (x : Bool). none P s (b ∷ (t ++ r)) && x) (k r ∙ sym (none-other b t r i j))
         ∙ sym (none-append P s (b ∷ t) r)
 
+    case-mix : {c : ℕ} {m : Mix} (s t : List ℕ) (p q : Policy) → MixSign c m → ((r : List ℕ) → R p ≡ none P s r)
+        → ((r : List ℕ) → R q ≡ none P t r) → (r : List ℕ) → R p && R q ≡ none P (s ++ (c ∷ t)) r
+    case-mix s t p q m-both h k r = case-join s t p q 38 (λ e. omega (arith, e .0)) (λ e. omega arith) h k r
+    case-mix s t p q m-minus h k r = case-join s t p q 45 (λ e. omega (arith, e .0)) (λ e. omega arith) h k r
+    case-mix s t p q m-either h k r = case-join s t p q 94 (λ e. omega (arith, e .0)) (λ e. omega arith) h k r
+
     pub finds : {d : ℕ} {s : List ℕ} {p : Policy} → Sum X d s p → (r : List ℕ) → R p ≡ none P s r
     unfolding none
     finds a = elim a as (λ d s p x. (r : List ℕ) → R p ≡ none P s r) (λ d s p x. (r : List ℕ) → R p ≡ none P s r)
-        (λ d s p x. (r : List ℕ) → R p ≡ none P s r) (λ d s p x. (r : List ℕ) → R p ≡ none P s r) [
+        (λ d s p x. (r : List ℕ) → R p ≡ none P s r) (λ d s p x. (r : List ℕ) → R p ≡ none P s r) (λ d s p x. (r : List ℕ) → R p ≡ none P s r) [
           | a-zero ↦ (λ r. F .fail ∙ sym (none-other 48 [] r (λ e. omega (arith, e .0)) (λ e. omega arith)))
           | a-one ↦ (λ r. F .skip ∙ sym (none-other 49 [] r (λ e. omega (arith, e .0)) (λ e. omega arith)))
+          | a-full ↦ (λ r. F .full ∙ sym (none-other 84 [] r (λ e. omega (arith, e .0)) (λ e. omega arith)))
           | a-test f b ↦ case-test f b
           | a-assign f b ↦ case-assign f b
           | a-neg l (x → h) ↦ case-neg x h
@@ -133,6 +142,8 @@ module _ {X : Lexicon} (laws : Lawful X) where
           | s-star {s = s} {p = p} (x → h) ↦ (λ r. F .stars p ∙ case-last s p 42 (λ e. omega (arith, e .0)) (λ e. omega arith) h r)
           | p-one (x → h) ↦ h
           | p-seq {s = s} {t = t} {p = p} {q = q} (x → h) (y → k) ↦ (λ r. F .seq p q ∙ case-join s t p q 59 (λ e. omega (arith, e .0)) (λ e. omega arith) h k r)
+          | t-one (x → h) ↦ h
+          | t-mix {s = s} {t = t} {m = m} {p = p} {q = q} g (x → h) (y → k) ↦ (λ r. F .mixes m p q ∙ case-mix s t p q g h k r)
           | u-one (x → h) ↦ h
           | u-plus {s = s} {t = t} {p = p} {q = q} (x → h) (y → k) ↦
               (λ r. F .plus p q ∙ case-join s t p q 43 (λ e. omega (arith, e .0)) (λ e. omega arith) h k r)
@@ -145,11 +156,13 @@ module _ {X : Lexicon} (laws : Lawful X) where
     inner = λ a s b r h. B .inner a s b r h;
     fail = refl;
     skip = refl;
+    full = refl;
     tests = λ {n} {f} v s g. below n k ∙ ap not (sym (B .here f n 61 s g (inl refl)));
     assigns = λ {n} {f} v s g. below n k ∙ ap not (sym (B .here f n 58 s g (inr refl)));
     negates = λ {d} {s} {p} r a. ap (λ (x : Bool). not x && fields-below? k p)
         (sym (B .elsewhere 33 (s ++ r) (no-letter laws 33 (λ e. omega (arith, e .0)))));
     plus = λ p q. refl;
+    mixes = λ m p q. refl;
     seq = λ p q. refl;
     stars = λ p. refl;
   }
@@ -169,11 +182,13 @@ module _ {X : Lexicon} (laws : Lawful X) where
     inner = λ a s b r h. let w = word-above (laws .word (a ∷ s) b h) in ap (λ (x : Bool). x && not (clean? X r)) (ne-eqb b 33 (λ e. omega (arith, w)));
     fail = refl;
     skip = refl;
+    full = refl;
     tests = λ {n} {f} v s g. ap not (sym (spelt-offends f (61 ∷ s) n g));
     assigns = λ {n} {f} v s g. ap not (sym (spelt-offends f (58 ∷ s) n g));
     negates = λ {d} {s} {p} r a.
         ap (λ (x : Bool). x && negates-predicates? p) (sym (Bool·not-not (predicate? p)) ∙ ap (λ (x : Bool). not (not x)) (sym (clean-atom laws a r)));
     plus = λ p q. refl;
+    mixes = λ m p q. refl;
     seq = λ p q. refl;
     stars = λ p. refl;
   }

@@ -13,3 +13,4 @@ pub mod Says
 pub mod Worked
 pub mod Searches
 pub mod Only
+pub mod Precedence

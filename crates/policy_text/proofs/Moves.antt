@@ -4,7 +4,7 @@ use Prim.Native.Nat.{ℕ, suc, _+_, _≤_, _<_}
 use native.Mathlib.Numerals.{add-one}
 use native.Mathlib.Omega.{arith}
 use mathlib.Core.List.{List, [], _∷_}
-use mathlib.Core.Bool.{Bool, true, false, _||_, true≢false}
+use mathlib.Core.Bool.{Bool, true, false, not, _||_, true≢false}
 use lib.ListN.{length, drop, getD}
 use lib.Seq.{drop-cons, drop-length}
 use borrow.Author.Tests.{eq-eqb, ne-eqb, lt-ltb, le-ltb, eqb-true, eqb-false}
@@ -15,9 +15,10 @@ use lib.Dec.{eqb}
 use denote.Enum.Declared.{tagOf, declared}
 use Rattle.policy_text.proofs.syntax.Read.{enum}
 use Rattle.policy_text.specs.Lexicon.{Lexicon}
-use Rattle.policy_text.specs.Machine.{Acc, nothing, sofar, paren, negs, join-seq, join-plus, close, Frame, State, need, post, Out, accept, bad}
-use Rattle.policy_text.specs.Machine.{deep, nesting, scan, reads, byte-step, final, start, onward, go, stop, over, ByteStep}
-use Rattle.policy_text.specs.Posts.{continues-starred, continues-sum, scan-at, Open, AtomPost, JoinPost, StarsPost, read-of}
+use Rattle.policy_text.specs.Machine.{Acc, nothing, sofar, Left, opening, paren, negs, join-seq, join-term, close, Frame, State, need, post}
+use Rattle.policy_text.specs.Machine.{Out, accept, bad, deep, nesting, scan, reads, byte-step, final, start, onward, go, stop, over, ByteStep}
+use Rattle.policy_text.specs.Posts.{mixes?, continues-starred, continues-product, continues-term, continues-sum}
+use Rattle.policy_text.specs.Posts.{scan-at, Open, AtomPost, JoinPost, StarsPost, read-of}
 use Rattle.policy_text.specs.declared.syntax.Read.{Read}
 use Rattle.policy_text.specs.declared.syntax.Read.the-variants.{End, Bad, Deep}
 
@@ -29,6 +30,14 @@ not-end : (e : ℕ) → ReadRefused (End e) → ⊥
 not-end e (inl h) = omega (arith, h)
 not-end e (inr h) = omega (arith, h)
 
+pub not-true : (x : Bool) → not x ≡ true → x ≡ false
+not-true true e = sym e
+not-true false e = refl
+
+pub not-false : (x : Bool) → not x ≡ false → x ≡ true
+not-false true e = refl
+not-false false e = sym e
+
 pub or-false : (x y : Bool) → x || y ≡ false → (x ≡ false) × (y ≡ false)
 or-false true y h = absurd (true≢false h)
 or-false false y h = (refl, h)
@@ -38,7 +47,7 @@ or-falses true y h k = h
 or-falses false y h k = k
 
 module _ (X : Lexicon) where
-  module _ (sa pa : Acc) (n : ℕ) (σ : List Frame) (b : ℕ) where
+  module _ (sa : Left) (pa : Acc) (n : ℕ) (σ : List Frame) (b : ℕ) where
     pub step-bang : b ≡ 33 → n + nesting σ < 32 → byte-step X 32 (need sa pa n σ) b ≡ go (need sa pa (suc n) σ)
     unfolding byte-step
     step-bang e h = ap (λ (b : ℕ). byte-step X 32 (need sa pa n σ) b) e ∙ simp (lt-ltb _ _ h)
@@ -47,7 +56,7 @@ module _ (X : Lexicon) where
     unfolding byte-step
     step-bang-over e h = ap (λ (b : ℕ). byte-step X 32 (need sa pa n σ) b) e ∙ simp (le-ltb _ _ h)
 
-    pub step-open : b ≡ 40 → n + nesting σ < 32 → byte-step X 32 (need sa pa n σ) b ≡ go (need nothing nothing 0 (paren sa pa n ∷ σ))
+    pub step-open : b ≡ 40 → n + nesting σ < 32 → byte-step X 32 (need sa pa n σ) b ≡ go (need (opening nothing) nothing 0 (paren sa pa n ∷ σ))
     unfolding byte-step
     step-open e h = ap (λ (b : ℕ). byte-step X 32 (need sa pa n σ) b) e ∙ simp (lt-ltb _ _ h)
 
@@ -55,14 +64,26 @@ module _ (X : Lexicon) where
     unfolding byte-step
     step-open-over e h = ap (λ (b : ℕ). byte-step X 32 (need sa pa n σ) b) e ∙ simp (le-ltb _ _ h)
 
-  module _ (v : Policy) (sa pa : Acc) (σ : List Frame) (b : ℕ) where
+  module _ (v : Policy) (sa : Left) (pa : Acc) (σ : List Frame) (b : ℕ) where
     pub step-semi : b ≡ 59 → byte-step X 32 (post v sa pa σ) b ≡ go (need sa (sofar (join-seq pa v)) 0 σ)
     unfolding byte-step
     step-semi e = ap (λ (b : ℕ). byte-step X 32 (post v sa pa σ) b) e
 
-    pub step-plus : b ≡ 43 → byte-step X 32 (post v sa pa σ) b ≡ go (need (sofar (join-plus sa (join-seq pa v))) nothing 0 σ)
+    pub step-plus : b ≡ 43 → byte-step X 32 (post v sa pa σ) b ≡ go (need (opening (sofar (join-term sa (join-seq pa v)))) nothing 0 σ)
     unfolding byte-step
     step-plus e = ap (λ (b : ℕ). byte-step X 32 (post v sa pa σ) b) e
+
+    -- `&`, `-` or `^`
+    pub step-mix : true ≡ mixes? b → (sb : Left) × (byte-step X 32 (post v sa pa σ) b ≡ go (need sb nothing 0 σ))
+    unfolding byte-step
+    step-mix e = by (eqb b 38) (eqb b 45) (eqb b 94) refl refl refl e
+      where
+        by : (x y z : Bool) → eqb b 38 ≡ x → eqb b 45 ≡ y → eqb b 94 ≡ z → true ≡ (x || y) || z
+            → (sb : Left) × (byte-step X 32 (post v sa pa σ) b ≡ go (need sb nothing 0 σ))
+        by true y z f g h i = (_, ap (λ (b : ℕ). byte-step X 32 (post v sa pa σ) b) (eqb-true b 38 f))
+        by false true z f g h i = (_, ap (λ (b : ℕ). byte-step X 32 (post v sa pa σ) b) (eqb-true b 45 g))
+        by false false true f g h i = (_, ap (λ (b : ℕ). byte-step X 32 (post v sa pa σ) b) (eqb-true b 94 h))
+        by false false false f g h i = absurd (true≢false i)
 
     pub step-close : b ≡ 41 → byte-step X 32 (post v sa pa σ) b ≡ close v sa pa σ
     unfolding byte-step
@@ -71,11 +92,14 @@ module _ (X : Lexicon) where
     pub step-after : continues-sum b ≡ false → (b ≡ 41 → ⊥) → byte-step X 32 (post v sa pa σ) b ≡ stop
     unfolding byte-step
     step-after e f =
-        let p = or-false (eqb b 42 || eqb b 59) (eqb b 43) e in
-        let q = or-false (eqb b 42) (eqb b 59) (p .0) in
-        simp (q .0, q .1, p .1, ne-eqb _ _ f)
+        let p = or-false (continues-term b) (eqb b 43) e in
+        let q = or-false (continues-product b) (mixes? b) (p .0) in
+        let r = or-false (eqb b 42) (eqb b 59) (q .0) in
+        let s = or-false (eqb b 38 || eqb b 45) (eqb b 94) (q .1) in
+        let t = or-false (eqb b 38) (eqb b 45) (s .0) in
+        simp (r .0, r .1, t .0, t .1, s .1, p .1, ne-eqb _ _ f)
 
-  pub step-after-all : (v : Policy) (sa pa : Acc) (b : ℕ) → continues-sum b ≡ false → byte-step X 32 (post v sa pa []) b ≡ stop
+  pub step-after-all : (v : Policy) (sa : Left) (pa : Acc) (b : ℕ) → continues-sum b ≡ false → byte-step X 32 (post v sa pa []) b ≡ stop
   unfolding close
   step-after-all v sa pa b e = by (eqb b 41) refl
     where
@@ -107,7 +131,7 @@ module _ (X : Lexicon) where
 
     -- one byte, and then an atom's rest
     pub atom-go : (d : ℕ) (q r : Open) (at : ℕ) (x : Read) → at < length t
-        → ((sa pa : Acc) (n : ℕ) (σ : List Frame) → byte-step X 32 (q sa pa n σ) (getD t at 0) ≡ go (r sa pa n σ))
+        → ((sa : Left) (pa : Acc) (n : ℕ) (σ : List Frame) → byte-step X 32 (q sa pa n σ) (getD t at 0) ≡ go (r sa pa n σ))
         → AtomPost X t d r (at + 1) x → AtomPost X t d q at x
     unfolding AtomPost
     atom-go d q r at (End e) h s a = (
@@ -121,26 +145,26 @@ module _ (X : Lexicon) where
 
     -- one byte, which ends the atom
     pub atom-whole : (d : ℕ) (q : Open) (at : ℕ) (p : ℕ → Policy) → at < length t
-        → ((sa pa : Acc) (n : ℕ) (σ : List Frame) → byte-step X 32 (q sa pa n σ) (getD t at 0) ≡ go (post (p n) sa pa σ))
+        → ((sa : Left) (pa : Acc) (n : ℕ) (σ : List Frame) → byte-step X 32 (q sa pa n σ) (getD t at 0) ≡ go (post (p n) sa pa σ))
         → AtomPost X t d q at (End (at + 1))
     unfolding AtomPost
     atom-whole d q at p h s = (omega arith, omega arith, λ sa pa n σ g. (p n, scan-go (q sa pa n σ) (post (p n) sa pa σ) at h (s sa pa n σ)))
 
     pub atom-stop : (d : ℕ) (q : Open) (at : ℕ) → at < length t
-        → ((sa pa : Acc) (n : ℕ) (σ : List Frame) → byte-step X 32 (q sa pa n σ) (getD t at 0) ≡ stop)
+        → ((sa : Left) (pa : Acc) (n : ℕ) (σ : List Frame) → byte-step X 32 (q sa pa n σ) (getD t at 0) ≡ stop)
         → AtomPost X t d q at (Bad at)
     unfolding AtomPost
     atom-stop d q at h s = λ sa pa n σ g. scan-stop (q sa pa n σ) at h (s sa pa n σ)
 
     pub atom-end : (d : ℕ) (q : Open) (at : ℕ) → at ≡ length t
-        → ((sa pa : Acc) (n : ℕ) (σ : List Frame) → final (q sa pa n σ) at ≡ bad at)
+        → ((sa : Left) (pa : Acc) (n : ℕ) (σ : List Frame) → final (q sa pa n σ) at ≡ bad at)
         → AtomPost X t d q at (Bad at)
     unfolding AtomPost
     atom-end d q at e s = λ sa pa n σ g. scan-end (q sa pa n σ) at e ∙ s sa pa n σ
 
     -- no star so far; one star more; the stars' end
     pub Stars : ℕ → ℕ → Type 0
-    Stars at i = (v : Policy) (sa pa : Acc) (σ : List Frame) → (u : Policy) × (scan-at X t (post v sa pa σ) at ≡ scan-at X t (post u sa pa σ) i)
+    Stars at i = (v : Policy) (sa : Left) (pa : Acc) (σ : List Frame) → (u : Policy) × (scan-at X t (post v sa pa σ) at ≡ scan-at X t (post u sa pa σ) i)
 
     pub stars-none : (at : ℕ) → Stars at at
     unfolding Stars
@@ -205,7 +229,8 @@ module _ (X : Lexicon) where
     -- operands up to i, each with its join
     pub Joined : ℕ → ℕ → ℕ → Type 0
     Joined d at i = (at ≤ i) × (i ≤ length t)
-        × ((sa pa : Acc) (σ : List Frame) → nesting σ ≡ d → (sb pb : Acc) × (scan-at X t (need sa pa 0 σ) at ≡ scan-at X t (need sb pb 0 σ) i))
+        × ((sa : Left) (pa : Acc) (σ : List Frame) → nesting σ ≡ d
+        → (sb : Left) × (pb : Acc) × (scan-at X t (need sa pa 0 σ) at ≡ scan-at X t (need sb pb 0 σ) i))
 
     pub joined-none : (d at : ℕ) → at ≤ length t → Joined d at at
     unfolding Joined
@@ -220,7 +245,8 @@ module _ (X : Lexicon) where
     joined-in d at i j = j .1
 
     pub joined-more : (g : ℕ → Bool) (d at i e : ℕ) → e < length t
-        → ((v : Policy) (sa pa : Acc) (σ : List Frame) → (sb pb : Acc) × (byte-step X 32 (post v sa pa σ) (getD t e 0) ≡ go (need sb pb 0 σ)))
+        → ((v : Policy) (sa : Left) (pa : Acc) (σ : List Frame)
+        → (sb : Left) × (pb : Acc) × (byte-step X 32 (post v sa pa σ) (getD t e 0) ≡ go (need sb pb 0 σ)))
         → Joined d at i → JoinPost X g t d i (End e) → Joined d at (e + 1)
     unfolding Joined JoinPost
     joined-more g d at i e l s j b = (
@@ -264,19 +290,19 @@ module _ (X : Lexicon) where
 
     -- `(`, a sum, and `)`, or what is in its place
     module _ (d at : ℕ) (h : at < length t) (b : getD t at 0 ≡ 40) (l : d < 32) where
-      opened : (sa pa : Acc) (n : ℕ) (σ : List Frame) → n + nesting σ ≡ d
-          → scan-at X t (need sa pa n σ) at ≡ scan-at X t (need nothing nothing 0 (paren sa pa n ∷ σ)) (at + 1)
+      opened : (sa : Left) (pa : Acc) (n : ℕ) (σ : List Frame) → n + nesting σ ≡ d
+          → scan-at X t (need sa pa n σ) at ≡ scan-at X t (need (opening nothing) nothing 0 (paren sa pa n ∷ σ)) (at + 1)
       opened sa pa n σ g = scan-go _ _ at h (step-open sa pa n σ _ b (omega arith))
 
-      within : (sa pa : Acc) (n : ℕ) (σ : List Frame) → n + nesting σ ≡ d → nesting (paren sa pa n ∷ σ) ≡ d + 1
+      within : (sa : Left) (pa : Acc) (n : ℕ) (σ : List Frame) → n + nesting σ ≡ d → nesting (paren sa pa n ∷ σ) ≡ d + 1
       unfolding nesting
       within sa pa n σ g = omega arith
 
       pub paren-refused : (x : Read) → ReadRefused x → JoinPost X continues-sum t (d + 1) (at + 1) x → AtomPost X t d need at x
       unfolding AtomPost JoinPost
       paren-refused (End e) r a = absurd (not-end e r)
-      paren-refused (Bad i) r a = λ sa pa n σ g. opened sa pa n σ g ∙ a nothing nothing (paren sa pa n ∷ σ) (within sa pa n σ g)
-      paren-refused (Deep i) r a = λ sa pa n σ g. opened sa pa n σ g ∙ a nothing nothing (paren sa pa n ∷ σ) (within sa pa n σ g)
+      paren-refused (Bad i) r a = λ sa pa n σ g. opened sa pa n σ g ∙ a (opening nothing) nothing (paren sa pa n ∷ σ) (within sa pa n σ g)
+      paren-refused (Deep i) r a = λ sa pa n σ g. opened sa pa n σ g ∙ a (opening nothing) nothing (paren sa pa n ∷ σ) (within sa pa n σ g)
 
       pub paren-closed : (e : ℕ) → JoinPost X continues-sum t (d + 1) (at + 1) (End e) → e < length t → getD t e 0 ≡ 41 → AtomPost X t d need at (End (e + 1))
       unfolding AtomPost JoinPost close
@@ -284,8 +310,8 @@ module _ (X : Lexicon) where
         omega (arith, a .0),
         omega arith,
         λ sa pa n σ g.
-            let u = a .3 nothing nothing (paren sa pa n ∷ σ) (within sa pa n σ g) in (
-              negs n (join-plus (u .0) (join-seq (u .1) (u .2))),
+            let u = a .3 (opening nothing) nothing (paren sa pa n ∷ σ) (within sa pa n σ g) in (
+              negs n (join-term (u .0) (join-seq (u .1) (u .2))),
               opened sa pa n σ g ∙ u .3 ∙ scan-go _ _ e k
                   (step-close (u .2) (u .0) (u .1) (paren sa pa n ∷ σ) _ c),
             ),
@@ -294,13 +320,13 @@ module _ (X : Lexicon) where
       pub paren-ends : (e : ℕ) → JoinPost X continues-sum t (d + 1) (at + 1) (End e) → e ≡ length t → AtomPost X t d need at (Bad e)
       unfolding AtomPost JoinPost final
       paren-ends e a k = λ sa pa n σ g.
-          let u = a .3 nothing nothing (paren sa pa n ∷ σ) (within sa pa n σ g) in
+          let u = a .3 (opening nothing) nothing (paren sa pa n ∷ σ) (within sa pa n σ g) in
           opened sa pa n σ g ∙ u .3 ∙ scan-end _ e k
 
       pub paren-stops : (e : ℕ) → JoinPost X continues-sum t (d + 1) (at + 1) (End e) → e < length t → (getD t e 0 ≡ 41 → ⊥) → AtomPost X t d need at (Bad e)
       unfolding AtomPost JoinPost
       paren-stops e a k c = λ sa pa n σ g.
-          let u = a .3 nothing nothing (paren sa pa n ∷ σ) (within sa pa n σ g) in
+          let u = a .3 (opening nothing) nothing (paren sa pa n ∷ σ) (within sa pa n σ g) in
           opened sa pa n σ g ∙ u .3 ∙ scan-stop _ e k (step-after (u .2) (u .0) (u .1) (paren sa pa n ∷ σ) _ (a .2 k) c)
 
     -- the whole text
@@ -311,20 +337,20 @@ module _ (X : Lexicon) where
     pub whole-refused : (x : Read) → ReadRefused x → JoinPost X continues-sum t 0 0 x → x ≡ read-of (length t) (reads X t)
     unfolding JoinPost nesting read-of
     whole-refused (End e) r a = absurd (not-end e r)
-    whole-refused (Bad i) r a = sym (ap (read-of (length t)) (whole-from (bad i) (a nothing nothing [] refl)))
-    whole-refused (Deep i) r a = sym (ap (read-of (length t)) (whole-from (deep i) (a nothing nothing [] refl)))
+    whole-refused (Bad i) r a = sym (ap (read-of (length t)) (whole-from (bad i) (a (opening nothing) nothing [] refl)))
+    whole-refused (Deep i) r a = sym (ap (read-of (length t)) (whole-from (deep i) (a (opening nothing) nothing [] refl)))
 
     pub whole-ends : (e : ℕ) → JoinPost X continues-sum t 0 0 (End e) → e ≡ length t → End e ≡ read-of (length t) (reads X t)
     unfolding JoinPost nesting read-of final
     whole-ends e a k =
-        let u = a .3 nothing nothing [] refl in
-        ap End k ∙ sym (ap (read-of (length t)) (whole-from (accept (join-plus (u .0) (join-seq (u .1) (u .2))))
+        let u = a .3 (opening nothing) nothing [] refl in
+        ap End k ∙ sym (ap (read-of (length t)) (whole-from (accept (join-term (u .0) (join-seq (u .1) (u .2))))
         (u .3 ∙ scan-end (post (u .2) (u .0) (u .1) []) e k)))
 
     pub whole-stops : (e : ℕ) → JoinPost X continues-sum t 0 0 (End e) → (e ≡ length t → ⊥) → Bad e ≡ read-of (length t) (reads X t)
     unfolding JoinPost nesting read-of
     whole-stops e a k =
-        let u = a .3 nothing nothing [] refl in
+        let u = a .3 (opening nothing) nothing [] refl in
         let l : e < length t = omega (arith, a .1) in
         sym (ap (read-of (length t)) (whole-from (bad e)
         (u .3 ∙ scan-stop (post (u .2) (u .0) (u .1) []) e l (step-after-all (u .2) (u .0) (u .1) _ (a .2 l)))))

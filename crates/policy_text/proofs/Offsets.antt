@@ -12,9 +12,9 @@ use mathlib.Core.Logic.{inl}
 use Rattle.model.specs.Policies.{Policy}
 use Rattle.policy_text.specs.Lexicon.{Whole, unspelt, field, Lexicon, Lawful}
 use Rattle.policy_text.specs.Grammar.{Completable, NotPolicy, TooDeep}
-use Rattle.policy_text.specs.Machine.{Acc, nothing, Frame, paren, Mid, spelt, colon, bit, State, need, inside, post, MidStep, more, whole}
-use Rattle.policy_text.specs.Machine.{not-mid, ByteStep, go, stop, over, Out, accept, bad, deep, negs, join-seq, join-plus, nesting, leaf, after-name}
-use Rattle.policy_text.specs.Machine.{mid-step, mid-go, close, byte-step, final, onward, scan, start, reads}
+use Rattle.policy_text.specs.Machine.{Acc, nothing, Left, opening, Frame, paren, Mid, spelt, colon, bit, State, need, inside, post, MidStep, more, whole}
+use Rattle.policy_text.specs.Machine.{not-mid, ByteStep, go, stop, over, Out, accept, bad, deep, negs, join-seq, join-term, nesting, leaf}
+use Rattle.policy_text.specs.Machine.{after-name, mid-step, mid-go, close, byte-step, final, onward, scan, start, reads}
 use Rattle.policy_text.proofs.Sound.{sound-at, bad≢accept, deep≢accept}
 use Rattle.policy_text.proofs.Spellings.{whole-begins, not-before}
 use Rattle.policy_text.proofs.Complete.{scan-cons, adv-spelt, complete-at}
@@ -25,10 +25,10 @@ module _ {X : Lexicon} (laws : Lawful X) where
   closing [] = []
   closing (f ∷ σ) = 41 ∷ closing σ
 
-  closes : (σ : List Frame) (L at : ℕ) (v : Policy) (sa pa : Acc) → (p : Policy) × (scan X L (post v sa pa σ) at (closing σ) ≡ accept p)
+  closes : (σ : List Frame) (L at : ℕ) (v : Policy) (sa : Left) (pa : Acc) → (p : Policy) × (scan X L (post v sa pa σ) at (closing σ) ≡ accept p)
   unfolding closing scan final byte-step close onward
-  closes [] L at v sa pa = (join-plus sa (join-seq pa v), refl)
-  closes (paren sb pb n ∷ σ) L at v sa pa = closes σ L (at + 1) (negs n (join-plus sa (join-seq pa v))) sb pb
+  closes [] L at v sa pa = (join-term sa (join-seq pa v), refl)
+  closes (paren sb pb n ∷ σ) L at v sa pa = closes σ L (at + 1) (negs n (join-term sa (join-seq pa v))) sb pb
 
   -- a state inside a test or an assignment, where the bytes read so far begin a spelling
   abbrev Spelling : Mid → Type 0
@@ -91,9 +91,10 @@ module _ {X : Lexicon} (laws : Lawful X) where
   keeps L K (need sa pa n σ) b h =
       by-both Keeps (eqb b 48) (keeps-refl (go (post (negs n Policy.fail) sa pa σ)))
       (by-both Keeps (eqb b 49) (keeps-refl (go (post (negs n Policy.skip) sa pa σ)))
+      (by-both Keeps (eqb b 84) (keeps-refl (go (post (negs n Policy.full) sa pa σ)))
       (by-both Keeps (eqb b 33) (by-limit (n + nesting σ) L K (go (need sa pa (suc n) σ)) h)
-      (by-both Keeps (eqb b 40) (by-limit (n + nesting σ) L K (go (need nothing nothing 0 (paren sa pa n ∷ σ))) h)
-      (keeps-refl (cond (X .begins? (b ∷ [])) (go (inside (spelt (b ∷ [])) sa pa n σ)) stop)))))
+      (by-both Keeps (eqb b 40) (by-limit (n + nesting σ) L K (go (need (opening nothing) nothing 0 (paren sa pa n ∷ σ))) h)
+      (keeps-refl (cond (X .begins? (b ∷ [])) (go (inside (spelt (b ∷ [])) sa pa n σ)) stop))))))
   keeps L K (inside m sa pa n σ) b h = keeps-refl (mid-go (mid-step X m b) sa pa n σ)
   keeps L K (post v sa pa σ) b h = keeps-refl (byte-step X L (post v sa pa σ) b)
 
@@ -133,13 +134,13 @@ module _ {X : Lexicon} (laws : Lawful X) where
   mid-stays (colon n) b = mid-if MidStays (eqb b 61) (λ _. tt) tt
   mid-stays (bit k n) b = mid-if MidStays (eqb b 48) (λ _. tt) (mid-if MidStays (eqb b 49) (λ _. tt) tt)
 
-  stays-mid : (L : ℕ) (k : MidStep) (sa pa : Acc) (n : ℕ) (σ : List Frame) → n + nesting σ ≤ L → MidStays k → Stays L (mid-go k sa pa n σ)
+  stays-mid : (L : ℕ) (k : MidStep) (sa : Left) (pa : Acc) (n : ℕ) (σ : List Frame) → n + nesting σ ≤ L → MidStays k → Stays L (mid-go k sa pa n σ)
   unfolding mid-go
   stays-mid L (more m) sa pa n σ h g = (h, g)
   stays-mid L (whole p) sa pa n σ h g = omega arith
   stays-mid L not-mid sa pa n σ h g = tt
 
-  stays-close : (L : ℕ) (v : Policy) (sa pa : Acc) (σ : List Frame) → nesting σ ≤ L → Stays L (close v sa pa σ)
+  stays-close : (L : ℕ) (v : Policy) (sa : Left) (pa : Acc) (σ : List Frame) → nesting σ ≤ L → Stays L (close v sa pa σ)
   unfolding close nesting
   stays-close L v sa pa [] h = tt
   stays-close L v sa pa (paren sb pb n ∷ σ) h = omega arith
@@ -149,13 +150,16 @@ module _ {X : Lexicon} (laws : Lawful X) where
   stays L (need sa pa n σ) b h =
       stays-if (Stays L) (eqb b 48) (λ _. omega arith)
       (stays-if (Stays L) (eqb b 49) (λ _. omega arith)
+      (stays-if (Stays L) (eqb b 84) (λ _. omega arith)
       (stays-if (Stays L) (eqb b 33) (λ _. stays-if (Stays L) (ltb (n + nesting σ) L) (λ e. let l = ltb-true (n + nesting σ) L e in omega arith) tt)
       (stays-if (Stays L) (eqb b 40) (λ _. stays-if (Stays L) (ltb (n + nesting σ) L) (λ e. let l = ltb-true (n + nesting σ) L e in omega arith) tt)
-      (stays-if (Stays L) (X .begins? (b ∷ [])) (λ e. (h, e)) tt))))
+      (stays-if (Stays L) (X .begins? (b ∷ [])) (λ e. (h, e)) tt)))))
   stays L (inside m sa pa n σ) b h = stays-mid L (mid-step X m b) sa pa n σ (h .0) (mid-stays m b)
   stays L (post v sa pa σ) b h =
       stays-if (Stays L) (eqb b 42) (λ _. h) (stays-if (Stays L) (eqb b 59) (λ _. omega arith)
-      (stays-if (Stays L) (eqb b 43) (λ _. omega arith) (stays-if (Stays L) (eqb b 41) (λ _. stays-close L v sa pa σ h) tt)))
+      (stays-if (Stays L) (eqb b 38) (λ _. omega arith) (stays-if (Stays L) (eqb b 45) (λ _. omega arith)
+      (stays-if (Stays L) (eqb b 94) (λ _. omega arith) (stays-if (Stays L) (eqb b 43) (λ _. omega arith)
+      (stays-if (Stays L) (eqb b 41) (λ _. stays-close L v sa pa σ h) tt))))))
 
   -- Where a run is refused: the text before that place, the state there, and what follows.
   abbrev halt : Bool → ℕ → Out
@@ -305,13 +309,13 @@ module _ {X : Lexicon} (laws : Lawful X) where
   lifts-limit : (n : ℕ) (q : State) → Begun q → n ≤ 32 → Lifts (cond (ltb n 32) (go q) over) (cond (ltb n 33) (go q) over)
   lifts-limit n q g h e = (q, simp (lt-ltb n 33 (omega arith)), g)
 
-  lifts-mid : (k : MidStep) (sa pa : Acc) (n : ℕ) (σ : List Frame) → Lifts (mid-go k sa pa n σ) (mid-go k sa pa n σ)
+  lifts-mid : (k : MidStep) (sa : Left) (pa : Acc) (n : ℕ) (σ : List Frame) → Lifts (mid-go k sa pa n σ) (mid-go k sa pa n σ)
   unfolding mid-go
   lifts-mid (more m) sa pa n σ = never-over _ _
   lifts-mid (whole p) sa pa n σ = never-over _ _
   lifts-mid not-mid sa pa n σ = never-stop _
 
-  lifts-close : (v : Policy) (sa pa : Acc) (σ : List Frame) → Lifts (close v sa pa σ) (close v sa pa σ)
+  lifts-close : (v : Policy) (sa : Left) (pa : Acc) (σ : List Frame) → Lifts (close v sa pa σ) (close v sa pa σ)
   unfolding close
   lifts-close v sa pa [] = never-stop _
   lifts-close v sa pa (paren sb pb n ∷ σ) = never-over _ _
@@ -321,13 +325,16 @@ module _ {X : Lexicon} (laws : Lawful X) where
   lifts (need sa pa n σ) b h =
       by-both Lifts (eqb b 48) (never-over _ _)
       (by-both Lifts (eqb b 49) (never-over _ _)
+      (by-both Lifts (eqb b 84) (never-over _ _)
       (by-both Lifts (eqb b 33) (lifts-limit (n + nesting σ) (need sa pa (suc n) σ) tt h)
-      (by-both Lifts (eqb b 40) (lifts-limit (n + nesting σ) (need nothing nothing 0 (paren sa pa n ∷ σ)) tt h)
-      (by-both Lifts (X .begins? (b ∷ [])) (never-over _ _) (never-stop _)))))
+      (by-both Lifts (eqb b 40) (lifts-limit (n + nesting σ) (need (opening nothing) nothing 0 (paren sa pa n ∷ σ)) tt h)
+      (by-both Lifts (X .begins? (b ∷ [])) (never-over _ _) (never-stop _))))))
   lifts (inside m sa pa n σ) b h = lifts-mid (mid-step X m b) sa pa n σ
   lifts (post v sa pa σ) b h =
       by-both Lifts (eqb b 42) (never-over _ _) (by-both Lifts (eqb b 59) (never-over _ _)
-      (by-both Lifts (eqb b 43) (never-over _ _) (by-both Lifts (eqb b 41) (lifts-close v sa pa σ) (never-stop _))))
+      (by-both Lifts (eqb b 38) (never-over _ _) (by-both Lifts (eqb b 45) (never-over _ _)
+      (by-both Lifts (eqb b 94) (never-over _ _) (by-both Lifts (eqb b 43) (never-over _ _)
+      (by-both Lifts (eqb b 41) (lifts-close v sa pa σ) (never-stop _)))))))
 
   module _ (t : List ℕ) (i : ℕ) where
     place-in : (k : Bool) (R : Reached 32 k start 0 t i) → length t ≡ i + length (R .back)

@@ -128,7 +128,8 @@ module _ (t : List ℕ) where
 
   inside-next : (at n : ℕ) → at < length t → 0 < n
       → clean-inside? (drop at t) n
-      ≡ cond (eqb (getD t at 0) 58) false (cond (eqb (getD t at 0) 42) false (clean-inside? (drop (at + 1) t) (open-after (getD t at 0) n)))
+      ≡ cond (eqb (getD t at 0) 58) false (cond (eqb (getD t at 0) 42) false (cond (eqb (getD t at 0) 84) false
+      (clean-inside? (drop (at + 1) t) (open-after (getD t at 0) n))))
   unfolding clean-inside?
   inside-next at n h k = ap (λ (s : List ℕ). clean-inside? s n) (left at h) ∙ simp (ne-eqb n 0 (λ e. omega arith))
 
@@ -138,10 +139,14 @@ module _ (t : List ℕ) where
   pub inside-star : (at n : ℕ) → at ≤ length t → (at ≡ length t → ⊥) → 0 < n → (getD t at 0 ≡ 58 → ⊥) → getD t at 0 ≡ 42 → clean-inside? (drop at t) n ≡ false
   inside-star at n h l k f e = inside-next at n (omega arith) k ∙ simp (ne-eqb _ _ f, eq-eqb _ _ e)
 
+  pub inside-full : (at n : ℕ) → at ≤ length t → (at ≡ length t → ⊥) → 0 < n → (getD t at 0 ≡ 58 → ⊥) → (getD t at 0 ≡ 42 → ⊥) → getD t at 0 ≡ 84
+      → clean-inside? (drop at t) n ≡ false
+  inside-full at n h l k f e i = inside-next at n (omega arith) k ∙ simp (ne-eqb _ _ f, ne-eqb _ _ e, eq-eqb _ _ i)
+
   pub inside-later : (at n m : ℕ) → at ≤ length t → (at ≡ length t → ⊥) → 0 < n → (getD t at 0 ≡ 58 → ⊥) → (getD t at 0 ≡ 42 → ⊥)
-      → m ≡ open-after (getD t at 0) n
+      → (getD t at 0 ≡ 84 → ⊥) → m ≡ open-after (getD t at 0) n
       → clean-inside? (drop at t) n ≡ clean-inside? (drop (at + 1) t) m
-  inside-later at n m h l k f e g = rw g (inside-next at n (omega arith) k ∙ simp (ne-eqb _ _ f, ne-eqb _ _ e))
+  inside-later at n m h l k f e i g = rw g (inside-next at n (omega arith) k ∙ simp (ne-eqb _ _ f, ne-eqb _ _ e, ne-eqb _ _ i))
 
   -- an operand
   pub clean-none : (at : ℕ) → length t ≤ at → at ≤ length t → clean? x-forms (drop at t) ≡ true
@@ -160,9 +165,10 @@ module _ (t : List ℕ) where
   unfolding clean?
   clean-bang at h e = ap (clean? x-forms) (left at h) ∙ rw e refl
 
-  pub clean-digit : (at : ℕ) → at < length t → (getD t at 0 ≡ 40 → ⊥) → (getD t at 0 ≡ 120 → ⊥) → (getD t at 0 ≡ 33 → ⊥) → clean? x-forms (drop at t) ≡ true
+  pub clean-leaf : (at : ℕ) → at < length t → (getD t at 0 ≡ 40 → ⊥) → (getD t at 0 ≡ 120 → ⊥) → (getD t at 0 ≡ 33 → ⊥)
+      → clean? x-forms (drop at t) ≡ not (eqb (getD t at 0) 84)
   unfolding clean?
-  clean-digit at h f e g = ap (clean? x-forms) (left at h) ∙ simp (ne-eqb _ _ f, ne-eqb _ _ e, ne-eqb _ _ g)
+  clean-leaf at h f e g = ap (clean? x-forms) (left at h) ∙ simp (ne-eqb _ _ f, ne-eqb _ _ e, ne-eqb _ _ g)
 
   pub offends-here : (at : ℕ) (r : Bool) → at < length t → getD t at 0 ≡ 33 → r ≡ clean? x-forms (drop (at + 1) t) → not r ≡ offends? x-forms (drop at t)
   unfolding offends?

@@ -26,15 +26,8 @@ use Rattle.policy_text.proofs.Counts.{none, finds, fields-found, spelt-
 use Rattle.policy_text.proofs.Begins.{Begins, other, inner, name, bang, begins}
 use Rattle.policy_text.proofs.Clean.{clean-atom}
 use Rattle.policy_text.proofs.Spellings.{word-above, no-letter}
+use Rattle.policy_text.proofs.Moves.{not-true, not-false}
 use Rattle.policy_text.proofs.Searches.{FirstAt, FirstOf, first-of, first-nowhere}
-
-not-true : (x : Bool) → not x ≡ true → x ≡ false
-not-true true e = sym e
-not-true false e = refl
-
-not-false : (x : Bool) → not x ≡ false → x ≡ true
-not-false true e = refl
-not-false false e = sym e
 
 module _ {X : Lexicon} (laws : Lawful X) where
   -- the tests on the text that a field's spelling and an operand begin

@@ -18,6 +18,10 @@ word-not (inl h) (inr e) = omega (arith, h .0)
 word-not (inr h) (inl e) = omega (arith, h .1)
 word-not (inr h) (inr e) = omega (arith, h .1)
 
+pub word-no-full : {b : ℕ} → Letter b ⊎ Digit b → b ≡ 84 → ⊥
+word-no-full (inl h) e = omega (arith, h .0)
+word-no-full (inr h) e = omega (arith, h .1)
+
 module _ {X : Lexicon} (laws : Lawful X) where
   -- what begins a spelling, cut
   pub prefix : (s w : List ℕ) → X .begins? (s ++ w) ≡ true → X .begins? s ≡ true

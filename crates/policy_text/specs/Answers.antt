@@ -46,7 +46,7 @@ pub record NoField (X : Lexicon) (k : ℕ) (t : List ℕ) (i : ℕ) : Type 0 whe
   pub above : k ≤ field
   pub none-before : (j n : ℕ) → j < i → Names X n (drop j t) → n < k
 
--- 8: "at the first offending `!`", in a policy of fields below k with `:=` or `*` in the operand of a `!`
+-- 8: "at the first offending `!`", in a policy of fields below k with `:=`, `*` or `T` in the operand of a `!`
 pub record NotPredicate (X : Lexicon) (k : ℕ) (t : List ℕ) (i : ℕ) : Type 0 where
   pub policy : Policy
   pub follows : Sum X 32 t policy
@@ -59,7 +59,7 @@ pub record NotPredicate (X : Lexicon) (k : ℕ) (t : List ℕ) (i : ℕ) : Type 
   pub none-before : (j : ℕ) (p : Policy) → j < i → Negates X p (drop j t) → predicate? p ≡ true
 
 -- 01's rules but the length, which is 10: a text "follows the grammar, nests no atom deeper than 32, names only fields below k and has
--- neither `:=` nor `*` in the operand of a `!`"
+-- neither `:=` nor `*` in the operand of a `!`", `T` counted with them
 pub record KeepsRules (X : Lexicon) (k : ℕ) (t : List ℕ) : Type 0 where
   pub policy : Policy
   pub follows : Sum X 32 t policy

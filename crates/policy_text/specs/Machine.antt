@@ -4,7 +4,7 @@ use Prim.Native.Nat.{ℕ, zero, suc, _+_}
 use mathlib.Core.List.{List, [], _∷_, _++_}
 use mathlib.Core.Bool.{Bool, true, false, cond}
 use lib.Dec.{ltb, eqb}
-use Rattle.model.specs.Policies.{Policy}
+use Rattle.model.specs.Policies.{Mix, Policy}
 use Rattle.policy_text.specs.Lexicon.{Whole, unspelt, field, Lexicon}
 
 -- the left operand of a join: none yet, or what was read so far
@@ -12,9 +12,14 @@ pub data Acc : Type 0 where
   nothing : Acc
   sofar : Policy → Acc
 
--- an open parenthesis: the sum and the product that it is in, and how many `!` are right before it
+-- what stands before a product: the sum before its term and, where the product is not the term's first, the sign and what that joins it to
+pub data Left : Type 0 where
+  opening : Acc → Left
+  joining : Acc → Mix → Policy → Left
+
+-- an open parenthesis: the sum with the term, and the product, that it is in, and how many `!` are right before it
 pub data Frame : Type 0 where
-  paren : Acc → Acc → ℕ → Frame
+  paren : Left → Acc → ℕ → Frame
 
 -- inside a test or an assignment: after these bytes of a spelling; after `:`; after `=`, of an assignment or not
 pub data Mid : Type 0 where
@@ -24,9 +29,9 @@ pub data Mid : Type 0 where
 
 -- an atom has to begin, after n `!`; inside a test or an assignment; after a starred item
 pub data State : Type 0 where
-  need : Acc → Acc → ℕ → List Frame → State
-  inside : Mid → Acc → Acc → ℕ → List Frame → State
-  post : Policy → Acc → Acc → List Frame → State
+  need : Left → Acc → ℕ → List Frame → State
+  inside : Mid → Left → Acc → ℕ → List Frame → State
+  post : Policy → Left → Acc → List Frame → State
 
 -- what a byte does inside a test or an assignment: the test or assignment is longer, it ends with the policy, or the byte cannot be there
 pub data MidStep : Type 0 where
@@ -59,6 +64,18 @@ unfoldable pub join-plus : Acc → Policy → Policy
 join-plus nothing q = q
 join-plus (sofar p) q = Policy.plus p q
 
+-- the sum before a term; the term, and the sum, that a product ends
+unfoldable pub sum-before : Left → Acc
+sum-before (opening sa) = sa
+sum-before (joining sa m p) = sa
+
+unfoldable pub join-mix : Left → Policy → Policy
+join-mix (opening sa) q = q
+join-mix (joining sa m p) q = Policy.mixes m p q
+
+unfoldable pub join-term : Left → Policy → Policy
+join-term l q = join-plus (sum-before l) (join-mix l q)
+
 -- how many `(` and `!` are around what is in these parentheses
 unfoldable pub nesting : List Frame → ℕ
 nesting [] = 0
@@ -79,38 +96,46 @@ mid-step X (spelt s) b = cond (X .begins? (s ++ (b ∷ []))) (more (spelt (s ++ 
 mid-step X (colon n) b = cond (eqb b 61) (more (bit true n)) not-mid
 mid-step X (bit k n) b = cond (eqb b 48) (whole (leaf k n false)) (cond (eqb b 49) (whole (leaf k n true)) not-mid)
 
-unfoldable pub mid-go : MidStep → Acc → Acc → ℕ → List Frame → ByteStep
+unfoldable pub mid-go : MidStep → Left → Acc → ℕ → List Frame → ByteStep
 mid-go (more m) sa pa n σ = go (inside m sa pa n σ)
 mid-go (whole p) sa pa n σ = go (post (negs n p) sa pa σ)
 mid-go not-mid sa pa n σ = stop
 
 -- a `)` closes the innermost parenthesis
-unfoldable pub close : Policy → Acc → Acc → List Frame → ByteStep
+unfoldable pub close : Policy → Left → Acc → List Frame → ByteStep
 close v sa pa [] = stop
-close v sa pa (paren sb pb n ∷ σ) = go (post (negs n (join-plus sa (join-seq pa v))) sb pb σ)
+close v sa pa (paren sb pb n ∷ σ) = go (post (negs n (join-term sa (join-seq pa v))) sb pb σ)
+
+-- a sign after a product
+abbrev pub mix-go : Mix → Policy → Left → Acc → List Frame → ByteStep
+mix-go m v sa pa σ = go (need (joining (sum-before sa) m (join-mix sa (join-seq pa v))) nothing 0 σ)
 
 -- what a byte does, where an atom may nest L deep
 unfoldable pub byte-step : Lexicon → ℕ → State → ℕ → ByteStep
 byte-step X L (need sa pa n σ) b =
     cond (eqb b 48) (go (post (negs n Policy.fail) sa pa σ))
     (cond (eqb b 49) (go (post (negs n Policy.skip) sa pa σ))
+    (cond (eqb b 84) (go (post (negs n Policy.full) sa pa σ))
     (cond (eqb b 33) (cond (ltb (n + nesting σ) L) (go (need sa pa (suc n) σ)) over)
-    (cond (eqb b 40) (cond (ltb (n + nesting σ) L) (go (need nothing nothing 0 (paren sa pa n ∷ σ))) over)
+    (cond (eqb b 40) (cond (ltb (n + nesting σ) L) (go (need (opening nothing) nothing 0 (paren sa pa n ∷ σ))) over)
     (cond (X .begins? (b ∷ [])) (go (inside (spelt (b ∷ [])) sa pa n σ))
-    stop))))
+    stop)))))
 byte-step X L (inside m sa pa n σ) b = mid-go (mid-step X m b) sa pa n σ
 byte-step X L (post v sa pa σ) b =
     cond (eqb b 42) (go (post (Policy.stars v) sa pa σ))
     (cond (eqb b 59) (go (need sa (sofar (join-seq pa v)) 0 σ))
-    (cond (eqb b 43) (go (need (sofar (join-plus sa (join-seq pa v))) nothing 0 σ))
+    (cond (eqb b 38) (mix-go Mix.both v sa pa σ)
+    (cond (eqb b 45) (mix-go Mix.minus v sa pa σ)
+    (cond (eqb b 94) (mix-go Mix.either v sa pa σ)
+    (cond (eqb b 43) (go (need (opening (sofar (join-term sa (join-seq pa v)))) nothing 0 σ))
     (cond (eqb b 41) (close v sa pa σ)
-    stop)))
+    stop))))))
 
 -- where the text ends, at the offset
 unfoldable pub final : State → ℕ → Out
 final (need sa pa n σ) at = bad at
 final (inside m sa pa n σ) at = bad at
-final (post v sa pa []) at = accept (join-plus sa (join-seq pa v))
+final (post v sa pa []) at = accept (join-term sa (join-seq pa v))
 final (post v sa pa (f ∷ σ)) at = bad at
 
 unfoldable pub onward : ByteStep → (State → Out) → ℕ → Out
@@ -124,7 +149,7 @@ scan X L q at [] = final q at
 scan X L q at (b ∷ s) = onward (byte-step X L q b) (λ r. scan X L r (at + 1) s) at
 
 abbrev pub start : State
-start = need nothing nothing 0 []
+start = need (opening nothing) nothing 0 []
 
 unfoldable pub reads : Lexicon → List ℕ → Out
 reads X s = scan X 32 start 0 s

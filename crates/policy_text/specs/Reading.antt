@@ -24,17 +24,18 @@ test? (b ∷ s) = cond (eqb b 58) false (cond (eqb b 61) true (test? s))
 unfoldable pub open-after : ℕ → ℕ → ℕ
 open-after b n = cond (eqb b 40) (n + 1) (cond (eqb b 41) (n - 1) n)
 
--- neither `:` nor `*` up to the `)` that closes the first of n parentheses
+-- no `:`, `*` or `T` up to the `)` that closes the first of n parentheses
 unfoldable pub clean-inside? : List ℕ → ℕ → Bool
 clean-inside? [] n = true
-clean-inside? (b ∷ s) n = cond (eqb n 0) true (cond (eqb b 58) false (cond (eqb b 42) false (clean-inside? s (open-after b n))))
+clean-inside? (b ∷ s) n =
+    cond (eqb n 0) true (cond (eqb b 58) false (cond (eqb b 42) false (cond (eqb b 84) false (clean-inside? s (open-after b n)))))
 
--- neither `:` nor `*` in the atom that a text begins with
+-- no `:`, `*` or `T` in the atom that a text begins with
 unfoldable pub clean? : Lexicon → List ℕ → Bool
 clean? X [] = true
-clean? X (b ∷ s) = cond (eqb b 40) (clean-inside? s 1) (cond (X .starts? b) (test? s) (cond (eqb b 33) (clean? X s) true))
+clean? X (b ∷ s) = cond (eqb b 40) (clean-inside? s 1) (cond (X .starts? b) (test? s) (cond (eqb b 33) (clean? X s) (not (eqb b 84))))
 
--- `!` before an operand with `:` or `*`
+-- `!` before an operand with `:`, `*` or `T`
 unfoldable pub offends? : Lexicon → List ℕ → Bool
 offends? X [] = false
 offends? X (b ∷ s) = eqb b 33 && not (clean? X s)

@@ -2,6 +2,7 @@
 ghost use mathlib.Core.Path.{_≡_};
 ghost use Prim.Native.Nat.{ℕ};
 ghost use Rattle.policy_text.specs.XForms.{digit?, no-field?, x-forms};
+ghost use Rattle.policy_text.specs.Posts.{mixes?};
 ghost use Rattle.policy_text.specs.Reading.{first, offends?, rules, reading};
 
 mod fields;
@@ -28,6 +29,19 @@ pub fn is_digit(b: u8) -> bool
     ensures { λ r. ⌜ r ≡ digit? b ⌝ }
 {
     48 <= b && b <= 57
+}
+
+// One of the signs `&`, `-` and `^`, which join the products of a term.
+pub fn mixes(b: u8) -> bool
+    ensures { λ r. ⌜ r ≡ mixes? b ⌝ }
+{
+    if b == b'&' {
+        return true;
+    }
+    if b == b'-' {
+        return true;
+    }
+    b == b'^'
 }
 
 // The rules on a text that follows the grammar.

@@ -1,4 +1,4 @@
-// Does a text have `!` before an operand with `:=` or `*`: 8.
+// Does a text have `!` before an operand with `:=`, `*` or `T`: 8.
 ghost use mathlib.Core.Path.{_≡_};
 ghost use Prim.Native.Nat.{ℕ, _+_, _≤_, _<_};
 ghost use lib.ListN.{length, drop};
@@ -41,7 +41,7 @@ fn opened(b: u8, count: usize) -> usize
     count
 }
 
-// After `(`: neither `:` nor `*` up to its `)`?
+// After `(`: no `:`, `*` or `T` up to its `)`?
 fn clean_inside(text: &[u8], at: usize) -> bool
     requires { ⌜ at ≤ length (now text) ⌝ }
     ensures { λ r. ⌜ r ≡ clean-inside? (drop at (now (text .entry))) 1 ⌝ }
@@ -59,13 +59,16 @@ fn clean_inside(text: &[u8], at: usize) -> bool
         if b == b'*' {
             return false;
         }
+        if b == b'T' {
+            return false;
+        }
         count = opened(b, count);
         i += 1;
     }
     true
 }
 
-// Neither `:` nor `*` in the atom at an offset?
+// No `:`, `*` or `T` in the atom at an offset?
 fn clean(text: &[u8], at: usize) -> bool
     requires { ⌜ at ≤ length (now text) ⌝ }
     ensures { λ r. ⌜ r ≡ clean? x-forms (drop at (now (text .entry))) ⌝ }
@@ -80,14 +83,14 @@ fn clean(text: &[u8], at: usize) -> bool
             return is_test(text, i + 1);
         }
         if b != b'!' {
-            return true;
+            return b != b'T';
         }
         i += 1;
     }
     true
 }
 
-// A `!` before an operand with `:` or `*`?
+// A `!` before an operand with `:`, `*` or `T`?
 fn offends(text: &[u8], at: usize) -> bool
     requires { ⌜ at < length (now text) ⌝ }
     ensures { λ r. ⌜ r ≡ offends? x-forms (drop at (now (text .entry))) ⌝ }

@@ -6,7 +6,8 @@ ghost use mathlib.Core.List.{[], _∷_};
 ghost use lib.ListN.{length};
 ghost use Rattle.policy_text.specs.XForms.{x-forms};
 ghost use Rattle.policy_text.specs.Machine.{inside, need, spelt, bit, reads};
-ghost use Rattle.policy_text.specs.Posts.{AtomPost, RelationPost, JoinPost, StarsPost, continues-starred, continues-product, continues-sum, read-of};
+ghost use Rattle.policy_text.specs.Posts.{AtomPost, RelationPost, JoinPost, StarsPost, continues-starred, continues-product};
+ghost use Rattle.policy_text.specs.Posts.{continues-term, continues-sum, read-of};
 
 // What reading finds: the offset where it ended, or that of a byte that cannot stand there (7), or of a `(` or `!` inside 32 others (9).
 pub(crate) enum Read {
@@ -112,6 +113,9 @@ fn atom(text: &[u8], at: usize, depth: u32) -> Read
     if b == b'1' {
         return Read::End(at + 1);
     }
+    if b == b'T' {
+        return Read::End(at + 1);
+    }
     if b == b'x' {
         return read_field(text, at + 1);
     }
@@ -171,13 +175,33 @@ fn product(text: &[u8], at: usize, depth: u32) -> Read
     }
 }
 
+fn term(text: &[u8], at: usize, depth: u32) -> Read
+    requires { ⌜ at ≤ length (now text) ⌝ }
+    ensures { λ r. ⌜ JoinPost x-forms continues-term (now (text .entry)) depth at r ⌝ }
+{
+    let mut from = at;
+    loop {
+        let next = product(text, from, depth);
+        let Read::End(e) = next else {
+            return next;
+        };
+        if e == text.len() {
+            return next;
+        }
+        if !crate::mixes(text[e]) {
+            return next;
+        }
+        from = e + 1;
+    }
+}
+
 fn sum(text: &[u8], at: usize, depth: u32) -> Read
     requires { ⌜ at ≤ length (now text) ⌝ }
     ensures { λ r. ⌜ JoinPost x-forms continues-sum (now (text .entry)) depth at r ⌝ }
 {
     let mut from = at;
     loop {
-        let next = product(text, from, depth);
+        let next = term(text, from, depth);
         let Read::End(e) = next else {
             return next;
         };

@@ -13,7 +13,7 @@ use Rattle.model.specs.Operations.{constant, identity-at-depth, complement, uni
 use Rattle.model.specs.Packets.{packet, number}
 use Rattle.model.specs.FieldOrder.{before?}
 use Rattle.model.specs.FirstPair.{first-packet, first-pair}
-use Rattle.model.specs.Policies.{policy-program}
+use Rattle.model.specs.Policies.{mix-program, policy-program}
 use Rattle.model.specs.Programs.{agrees, run}
 use Rattle.model.specs.Recursion.{node1, op1, node2, op2}
 use Rattle.model.specs.Relations.{sequence, star, flip, naive-forward, backward}
@@ -34,14 +34,15 @@ use Rattle.store.specs.Calls.{new-store, step}
 use Rattle.new_store.specs.Creating.{places-for}
 use Rattle.new_store.proofs.Creating.{new-range, full-relations, full-sets, fits-new}
 use Rattle.policy_text.specs.XForms.{x-begins?, x-whole?, field-number, no-field?}
-use Rattle.policy_text.specs.Machine.{scan, final, byte-step, onward, mid-step, mid-go, after-name, close, join-seq, join-plus, negs, nesting, leaf, reads}
+use Rattle.policy_text.specs.Machine.{scan, final, byte-step, onward, mid-step, mid-go, after-name, close, join-seq, join-plus}
+use Rattle.policy_text.specs.Machine.{join-mix, join-term, sum-before, negs, nesting, leaf, reads}
 use Rattle.policy_text.specs.Reading.{first, test?, open-after, clean-inside?, clean?, offends?, rules, reading-of, reading}
 use Rattle.policy_text.specs.Answers.{tree-of, tree}
 use Rattle.policies.specs.Outcome.{of-reading, text-verdict}
 use Rattle.theorems.specs.AllCalls.{AnyCall, call, answered, any-step, plain-any-step, effect, AnyReply, all-calls}
 use Rattle.theorems.specs.Lists.{in-turn, plain-steps}
 use Rattle.theorems.specs.PlainStore.{asked, on-lists, plain-step, plain-policy-step, begun}
-use Rattle.theorems.specs.Worked.{Expected, yields, refuses, RowsRight, TableRight, one-field, no-field, faults, lister-lines}
+use Rattle.theorems.specs.Worked.{Expected, yields, refuses, RowsRight, TableRight, one-field, no-field, faults, lister-lines, mixed-texts}
 use Rattle.theorems.specs.Worked.{two-fields, first-pairs, members-in-turn, added, none-added, Worked}
 use Rattle.theorems.proofs.AllCalls.{any-right}
 use Rattle.theorems.proofs.Lists.{lists-right}
@@ -81,8 +82,15 @@ unfolding in-turn plain-any-step effect plain-step plain-policy-step asked on-li
     guard also of-one of-pair of-four level-of
     run get mk-store mk-handle place having agrees constant identity-at-depth union each-field test is-zero new op2 node2
     x-begins? x-whole? reading reading-of rules first field-number no-field? test? open-after clean-inside? clean? offends? reads scan final byte-step onward
-    mid-step mid-go after-name close join-seq join-plus negs nesting leaf tree-of tree
+    mid-step mid-go after-name close join-seq join-plus join-mix join-term sum-before negs nesting leaf tree-of tree
 texts-plain = (refl, refl, refl, refl)
+
+mixes-plain : Plainly 1 1 4 (without-new mixed-texts)
+unfolding in-turn plain-any-step effect plain-policy-step on-lists finishes text-verdict of-reading policy-program mix-program
+    run get mk-store mk-handle place having agrees constant identity-at-depth complement union intersect xor difference sequence new op1 node1 op2 node2
+    x-begins? x-whole? reading reading-of rules first field-number no-field? test? open-after clean-inside? clean? offends? reads scan final byte-step onward
+    mid-step mid-go after-name close join-seq join-plus join-mix join-term sum-before negs nesting leaf tree-of tree
+mixes-plain = refl
 
 -- the handle of `new`: the full relation's
 abbrev top-of : ℕ → ℕ
@@ -148,6 +156,7 @@ worked = record {
   listed = begins 1 22 3 (without-new lister-lines) refl (texts-plain .1);
   added-nodes = rows-begin (λ r. r) 1 26 5 (without-new added) refl (texts-plain .2);
   used-up = rows-begin (λ r. r) 1 18 3 (without-new none-added) refl (texts-plain .3);
+  mixed = begins 1 18 3 (without-new mixed-texts) refl mixes-plain;
   ordered = begins 2 146 21 (without-new two-fields) refl (calls-plain .2);
   first = begins 2 38 7 (without-new first-pairs) refl pairs-plain;
   members = begins 2 26 7 (without-new members-in-turn) refl members-plain;

@@ -2,13 +2,15 @@
 use mathlib.Core.Path.{_≡_, refl, sym, ap, _∙_, subst}
 use mathlib.Core.Logic.{inr}
 use mathlib.Core.List.{List, [], _∷_, _++_}
+use mathlib.Core.Bool.{false, true≢false}
 use Prim.Native.Nat.{ℕ, _+_, _*_}
 use native.Mathlib.Omega.{arith}
 use lib.ListN.{replicate}
 use Rattle.model.specs.Images.{new}
 use Rattle.model.specs.Operations.{constant, identity-at-depth}
 use Rattle.model.specs.Packets.{none, more, Packet}
-use Rattle.model.specs.Policies.{Policy, fail, skip, tests, assigns, negates, plus, seq, stars, meaning, fields-below?, negates-predicates?, policy-program}
+use Rattle.model.specs.Policies.{both, minus, Policy, fail, skip, full, tests, assigns, negates, plus, mixes, seq, stars, meaning, fields-below?}
+use Rattle.model.specs.Policies.{predicate?, negates-predicates?, policy-program}
 use Rattle.model.specs.Programs.{run}
 use Rattle.model.specs.Store.{set, rel, arity, get, place, having, mk-store, mk-handle}
 use Rattle.model.specs.Meaning.{Same}
@@ -18,14 +20,17 @@ use Rattle.theorems.specs.Lists.{in-turn}
 use Rattle.call_rules.specs.OnMemories.{new-step}
 use Rattle.call_rules.specs.Outcome.{guard, finishes}
 use Rattle.call_rules.specs.declared.Answer.the-variants as store
-use Rattle.policy_text.specs.XForms.{x-forms}
-use Rattle.policy_text.specs.Grammar.{Sum, a-zero, a-one, s-atom, p-one, u-one, u-plus}
+use Rattle.policy_text.specs.XForms.{f-zero, x-form, x-forms}
+use Rattle.policy_text.specs.Grammar.{b-zero, m-both, m-minus, Sum, a-zero, a-one, a-full, a-test, a-neg, a-paren, s-atom}
+use Rattle.policy_text.specs.Grammar.{p-one, p-seq, t-one, t-mix, u-one, u-plus}
 use Rattle.theorems.specs.AllCalls.{call, policy, answered, read, any-step, text-relates, WithinRules}
 use Rattle.theorems.specs.EveryHistory.{AcceptedIn}
 use Rattle.theorems.specs.Histories.{Made, LentInTurn, NoneRenews, History}
 use Rattle.policies.specs.Outcome.{policy-step}
 use Rattle.policies.specs.declared.PolicyAnswer.the-variants.{Handle, Declined}
 use Rattle.policies.specs.declared.PolicyRefusal.{PolicyRefusal}
+use Rattle.policy_text.proofs.Complete.{unambiguous}
+use Rattle.policy_text.proofs.XLaws.{x-lawful}
 use Rattle.theorems.proofs.EveryHistory.{every-history}
 use Rattle.theorems.proofs.Histories.{made}
 use Rattle.theorems.proofs.OneText.{tree-relates}
@@ -50,14 +55,14 @@ zero-keeps : WithinRules 1 zero-text
 unfolding fields-below? negates-predicates?
 zero-keeps = record {
   short = omega arith;
-  rules = record { policy = fail; follows = u-one (p-one (s-atom a-zero)); below = refl; negates-predicates = refl };
+  rules = record { policy = fail; follows = u-one (t-one (p-one (s-atom a-zero))); below = refl; negates-predicates = refl };
 }
 
 one-keeps : WithinRules 1 one-text
 unfolding fields-below? negates-predicates?
 one-keeps = record {
   short = omega arith;
-  rules = record { policy = skip; follows = u-one (p-one (s-atom a-one)); below = refl; negates-predicates = refl };
+  rules = record { policy = skip; follows = u-one (t-one (p-one (s-atom a-one))); below = refl; negates-predicates = refl };
 }
 
 -- a history of one text, on the store as `new` left it
@@ -116,14 +121,16 @@ not-one-handle h f =
     (record { before = []; it = called one-text; later = []; is = refl; text = refl; handle = one-accepted }) in
     omega arith
 
--- THE FIRST PRODUCT ONLY: it loses the pairs of the others
+-- THE FIRST PRODUCT of a sum only: it loses the pairs of the others
 unfoldable pub first-product : Policy → Policy
 first-product fail = fail
 first-product skip = skip
+first-product full = full
 first-product (tests v b) = tests v b
 first-product (assigns v b) = assigns v b
 first-product (negates x) = negates (first-product x)
 first-product (plus x y) = first-product x
+first-product (mixes m x y) = mixes m (first-product x) (first-product y)
 first-product (seq x y) = seq (first-product x) (first-product y)
 first-product (stars x) = stars (first-product x)
 
@@ -131,18 +138,91 @@ pub not-first-product : ¬ ((x : Policy) → Same 1 (meaning 1 (first-product x)
 unfolding meaning first-product
 not-first-product f = f (plus fail skip) (0 ∷ []) (0 ∷ []) (more 0 (omega arith) none) (more 0 (omega arith) none) .1 (inr refl)
 
--- so that `0+1` and `0` never have one handle
+-- TEXTS THAT DIFFER IN A PAIR never have one handle
+differ : (t u : List ℕ) (x y : Policy) (p q : List ℕ) → Sum x-forms 32 t x → Sum x-forms 32 u y → Packet 1 p → Packet 1 q → meaning 1 x p q
+    → ¬ meaning 1 y p q → (H : History) → H .width ≡ 1 → (g h : ℕ) → AcceptedIn (H .calls) t g → AcceptedIn (H .calls) u h → ¬ (g ≡ h)
+differ t u x y p q S U P Q m n H w g h A B e =
+    let same : Same 1 (text-relates 1 t) (text-relates 1 u)
+    = subst (λ k. Same k (text-relates k t) (text-relates k u)) w (every-history H .one-handle t u g h A B .0 e) in
+    n (tree-relates 1 u y U p q P Q .1 (same p q P Q .0 (tree-relates 1 t x S p q P Q .0 m)))
+
+-- two packets of one field
+zero-packet : Packet 1 (0 ∷ [])
+zero-packet = more 0 (omega arith) none
+
+one-packet : Packet 1 (1 ∷ [])
+one-packet = more 1 (omega arith) none
+
+apart : ¬ (_≡_ {A = List ℕ} (0 ∷ []) (1 ∷ []))
+apart e = let z : _≡_ {A = ℕ} 0 1 = cc in omega arith
+
+-- so the first product of `0+1` is not the text
 abbrev sum-text : List ℕ
 sum-text = zero-text ++ (43 ∷ one-text)
 
-sum-follows : Sum x-forms 32 sum-text (plus fail skip)
-sum-follows = u-plus (u-one (p-one (s-atom a-zero))) (p-one (s-atom a-one))
-
 pub sum-is-another : (H : History) → H .width ≡ 1 → (g h : ℕ) → AcceptedIn (H .calls) sum-text g → AcceptedIn (H .calls) zero-text h → ¬ (g ≡ h)
-unfolding meaning zero-keeps
-sum-is-another H w g h A B e =
-    let p : Packet 1 (0 ∷ []) = more 0 (omega arith) none in
-    let same : Same 1 (text-relates 1 sum-text) (text-relates 1 zero-text)
-    = subst (λ k. Same k (text-relates k sum-text) (text-relates k zero-text)) w (every-history H .one-handle sum-text zero-text g h A B .0 e) in
-    let s = same (0 ∷ []) (0 ∷ []) p p .0 (tree-relates 1 sum-text (plus fail skip) sum-follows (0 ∷ []) (0 ∷ []) p p .0 (inr refl)) in
-    tree-relates 1 zero-text fail (zero-keeps .rules .follows) (0 ∷ []) (0 ∷ []) p p .1 s
+unfolding meaning
+sum-is-another = differ sum-text zero-text (plus fail skip) fail (0 ∷ []) (0 ∷ [])
+    (u-plus (u-one (t-one (p-one (s-atom a-zero)))) (t-one (p-one (s-atom a-one)))) (u-one (t-one (p-one (s-atom a-zero)))) zero-packet zero-packet (inr refl) (λ m. m)
+
+-- `T` is not the identity
+abbrev full-text : List ℕ
+full-text = 84 ∷ []
+
+pub full-is-another : (H : History) → H .width ≡ 1 → (g h : ℕ) → AcceptedIn (H .calls) full-text g → AcceptedIn (H .calls) one-text h → ¬ (g ≡ h)
+unfolding meaning
+full-is-another = differ full-text one-text full skip (0 ∷ []) (1 ∷ []) (u-one (t-one (p-one (s-atom a-full)))) (u-one (t-one (p-one (s-atom a-one))))
+    zero-packet one-packet tt apart
+
+-- `-` is not from the right: `1-(1-1)` is not `1-1-1`
+abbrev minus-right : List ℕ
+minus-right = 49 ∷ 45 ∷ 40 ∷ 49 ∷ 45 ∷ 49 ∷ 41 ∷ []
+
+abbrev minus-left : List ℕ
+minus-left = 49 ∷ 45 ∷ 49 ∷ 45 ∷ 49 ∷ []
+
+pub right-is-another : (H : History) → H .width ≡ 1 → (g h : ℕ) → AcceptedIn (H .calls) minus-right g → AcceptedIn (H .calls) minus-left h → ¬ (g ≡ h)
+unfolding meaning
+right-is-another = differ minus-right minus-left (mixes minus skip (mixes minus skip skip)) (mixes minus (mixes minus skip skip) skip) (0 ∷ []) (0 ∷ [])
+    (u-one (t-mix m-minus (t-one (p-one (s-atom a-one)))
+    (p-one (s-atom (a-paren {e = 0} (omega arith) (u-one (t-mix m-minus (t-one (p-one (s-atom a-one))) (p-one (s-atom a-one)))))))))
+    (u-one (t-mix m-minus (t-mix m-minus (t-one (p-one (s-atom a-one))) (p-one (s-atom a-one))) (p-one (s-atom a-one))))
+    zero-packet zero-packet (refl, λ n. n .1 refl) (λ n. n .1 refl)
+
+-- `&` is not above `;`: `T;(1&1)` is not `T;1&1`
+abbrev both-above : List ℕ
+both-above = 84 ∷ 59 ∷ 40 ∷ 49 ∷ 38 ∷ 49 ∷ 41 ∷ []
+
+abbrev both-below : List ℕ
+both-below = 84 ∷ 59 ∷ 49 ∷ 38 ∷ 49 ∷ []
+
+pub above-is-another : (H : History) → H .width ≡ 1 → (g h : ℕ) → AcceptedIn (H .calls) both-above g → AcceptedIn (H .calls) both-below h → ¬ (g ≡ h)
+unfolding meaning
+above-is-another = differ both-above both-below (seq full (mixes both skip skip)) (mixes both (seq full skip) skip) (0 ∷ []) (1 ∷ [])
+    (u-one (t-one (p-seq (p-one (s-atom a-full))
+    (s-atom (a-paren {e = 0} (omega arith) (u-one (t-mix m-both (t-one (p-one (s-atom a-one))) (p-one (s-atom a-one)))))))))
+    (u-one (t-mix m-both (t-one (p-seq (p-one (s-atom a-full)) (s-atom a-one))) (p-one (s-atom a-one))))
+    zero-packet one-packet (1 ∷ [], one-packet, tt, (refl, refl)) (λ n. apart (n .1))
+
+-- `!p` is not `T-p`: `T-0` is not `!0`
+abbrev full-minus : List ℕ
+full-minus = 84 ∷ 45 ∷ 48 ∷ []
+
+abbrev negated-zero : List ℕ
+negated-zero = 33 ∷ 48 ∷ []
+
+pub negation-is-another : (H : History) → H .width ≡ 1 → (g h : ℕ) → AcceptedIn (H .calls) full-minus g → AcceptedIn (H .calls) negated-zero h → ¬ (g ≡ h)
+unfolding meaning
+negation-is-another = differ full-minus negated-zero (mixes minus full fail) (negates fail) (0 ∷ []) (1 ∷ [])
+    (u-one (t-mix m-minus (t-one (p-one (s-atom a-full))) (p-one (s-atom a-zero))))
+    (u-one (t-one (p-one (s-atom (a-neg {e = 0} (omega arith) a-zero)))))
+    zero-packet one-packet (tt, λ n. n) (λ n. apart (n .0))
+
+-- `T` UNDER `!`: `!(x0=0&T)` does not keep the rules, though what it negates relates packets to themselves only
+pub full-under-negation : (k : ℕ) → ¬ WithinRules k (33 ∷ 40 ∷ 120 ∷ 48 ∷ 61 ∷ 48 ∷ 38 ∷ 84 ∷ 41 ∷ [])
+unfolding negates-predicates? predicate?
+full-under-negation k K = true≢false (sym (K .rules .negates-predicates) ∙ ap negates-predicates? (unambiguous x-lawful (K .rules .follows) follows))
+  where
+    follows : Sum x-forms 32 (33 ∷ 40 ∷ 120 ∷ 48 ∷ 61 ∷ 48 ∷ 38 ∷ 84 ∷ 41 ∷ []) (negates (mixes both (tests 0 false) full))
+    follows = u-one (t-one (p-one (s-atom (a-neg {d = 32} {e = 1} (omega arith) (a-paren {d = 1} {e = 0} (omega arith)
+        (u-one (t-mix m-both (t-one (p-one (s-atom (a-test (x-form f-zero) b-zero)))) (p-one (s-atom a-full)))))))))

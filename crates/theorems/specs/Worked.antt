@@ -1,4 +1,4 @@
--- Document 01, "Calls with their handles": the calls in its order, each with its answer; and 02, M-100, M-101 and M-103.
+-- Document 01, "Calls with their handles": the calls in its order, each with its answer; and 02, M-100, M-101, M-103 and M-104.
 use mathlib.Core.Path.{_≡_}
 use mathlib.Core.List.{List, [], _∷_, map}
 use mathlib.Core.Bool.{Bool, true, false}
@@ -126,6 +126,27 @@ lister-lines =
     ∷ text-yields either-value 3
     ∷ text-yields (49 ∷ []) 3
     ∷ text-refused (120 ∷ 48 ∷ 61 ∷ 53 ∷ []) NotPolicy 3
+    ∷ []
+
+-- 02, M-104, with the answers that the Rust gives (oracle/): the three signs are one level, from the left, between `+` and `;`
+abbrev pub mixed-texts : List Expected
+mixed-texts =
+    yields (new-store 1) 4
+    -- `T`, `T-1`
+    ∷ text-yields (84 ∷ []) 4
+    ∷ text-yields (84 ∷ 45 ∷ 49 ∷ []) 5
+    -- `T-1&1` is `(T-1)&1`; `T-(1&1)`
+    ∷ text-yields (84 ∷ 45 ∷ 49 ∷ 38 ∷ 49 ∷ []) 2
+    ∷ text-yields (84 ∷ 45 ∷ 40 ∷ 49 ∷ 38 ∷ 49 ∷ 41 ∷ []) 5
+    -- `0;T^T` is `(0;T)^T`; `1+T-1` is `1+(T-1)`
+    ∷ text-yields (48 ∷ 59 ∷ 84 ∷ 94 ∷ 84 ∷ []) 4
+    ∷ text-yields (49 ∷ 43 ∷ 84 ∷ 45 ∷ 49 ∷ []) 4
+    -- `!(1&T)`, `!x0=1&!T`
+    ∷ text-refused (33 ∷ 40 ∷ 49 ∷ 38 ∷ 84 ∷ 41 ∷ []) NotPredicate 0
+    ∷ text-refused (33 ∷ 120 ∷ 48 ∷ 61 ∷ 49 ∷ 38 ∷ 33 ∷ 84 ∷ []) NotPredicate 6
+    -- `x0=1&`, `1&-1`
+    ∷ text-refused (120 ∷ 48 ∷ 61 ∷ 49 ∷ 38 ∷ []) NotPolicy 5
+    ∷ text-refused (49 ∷ 38 ∷ 45 ∷ 49 ∷ []) NotPolicy 2
     ∷ []
 
 -- calls at k = 2 with the answers that the Rust gives (oracle/), every call but `policy` in it or above: the order of creation and the shortcuts
@@ -271,6 +292,7 @@ pub record Worked : Type 0 where
   pub short-sets : TableRight 14 2 (refuses (new-store 1) UsedUp ∷ [])
   pub policies : TableRight 14 3 faults
   pub listed : TableRight 22 3 lister-lines
+  pub mixed : TableRight 18 3 mixed-texts
   pub ordered : TableRight 146 21 two-fields
   pub first : TableRight 38 7 first-pairs
   pub members : TableRight 26 7 members-in-turn

@@ -28,8 +28,8 @@ pub struct Counts {
     fields: BTreeMap<u32, u64>,
     most_nodes: (u32, u32),
     /// The policies, and those of them whose pairs were compared.
-    policies: u64,
-    walked: u64,
+    pub policies: u64,
+    pub walked: u64,
 }
 
 /// Draws a list as `oracle draw` does and makes its calls on the library and on the oracle.

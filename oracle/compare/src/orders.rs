@@ -1,10 +1,12 @@
 //! Stores whose relations stand in another order than `new` and later calls leave, or lack some: `test` and
-//! `assign` go by the handles at which `new` puts the identity and the empty relation.
+//! `assign` go by the handles at which `new` puts the identity and the empty relation, and a text with a `T` or a
+//! sign makes the full and the empty relations where they are not held.
 
 use crate::case::{Case, Difference};
 use crate::damage;
 use crate::lent::{Guard, WorkLengths, WORK};
 use crate::library::Asked;
+use crate::lists::{self, policy};
 use crate::memory::{decode, lengths};
 use crate::said::Said;
 use oracle::answer::Answer;
@@ -13,11 +15,12 @@ use oracle::random::Random;
 use oracle::store::Store;
 
 /// Takes this many stores that drawn lists leave, each in an order of its own, and makes on each every
-/// `test` and `assign` with every length of working memory, and then every call.
+/// `test` and `assign` and short texts with every length of working memory, and then every call.
 pub fn compare(seed: u64, count: usize) -> Result<String, Difference> {
     let mut random = Random::new(seed);
     let mut work = WorkLengths::new();
     let mut counts = damage::Counts::default();
+    let mut texts = lists::Counts::default();
     let mut fields = 0;
     let mut constants = [0; 3];
     for number in 0..count {
@@ -25,7 +28,8 @@ pub fn compare(seed: u64, count: usize) -> Result<String, Difference> {
         constants[in_place(&case)] += 1;
         let made = every_field(&case, &mut random).and_then(|calls| {
             fields += calls;
-            damage::every_call(case, Part::All, &mut counts, &mut work, &mut random)
+            every_sign(&case, &mut texts, &mut random)?;
+            damage::every_call(case, Part::Policies, &mut counts, &mut work, &mut random)
         });
         made.map_err(|(call, what)| {
             let context = format!("seed {seed}, store {} in another order", number + 1);
@@ -34,10 +38,10 @@ pub fn compare(seed: u64, count: usize) -> Result<String, Difference> {
     }
     let [none, one, both] = constants;
     Ok(format!(
-        "AGREES seed {seed}: {fields} calls of rel.test and assign and {} of all names on {count} stores in \
-         other orders, with the identity and the empty relation where new puts them: {both}, with one of them: \
-         {one}, with neither: {none}",
-        counts.calls
+        "AGREES seed {seed}: {fields} calls of rel.test and assign, {} short texts, the pairs of {} compared, and {} \
+         calls of all names on {count} stores in other orders, with the identity and the empty relation where new \
+         puts them: {both}, with one of them: {one}, with neither: {none}",
+        texts.policies, texts.walked, counts.calls
     ))
 }
 
@@ -119,4 +123,39 @@ fn every_field(case: &Case, random: &mut Random) -> Result<u64, (String, String)
         }
     }
     Ok(calls)
+}
+
+/// The texts of `short_texts`, with every length of working memory.
+fn every_sign(
+    case: &Case,
+    counts: &mut lists::Counts,
+    random: &mut Random,
+) -> Result<(), (String, String)> {
+    for text in short_texts(held(case).fields(), random) {
+        for work in WORK {
+            let mut case = Case { work, ..case.clone() };
+            let made = policy(text.as_bytes(), &mut held(&case), &mut case, counts, random);
+            made.map_err(|what| (Asked::Policy(text.as_bytes()).to_string(), what))?;
+        }
+    }
+    Ok(())
+}
+
+/// `T`, and with each of the three signs `T` and an item, the item and `T`, the item twice, and it and another.
+fn short_texts(fields: u32, random: &mut Random) -> Vec<String> {
+    let mut texts = vec!["T".to_string()];
+    for sign in ["&", "-", "^"] {
+        let [one, other] = [(); 2].map(|()| item(fields, random));
+        let pairs = [("T", &*one), (&one, "T"), (&one, &one), (&one, &other)];
+        texts.extend(pairs.map(|(left, right)| format!("{left}{sign}{right}")));
+    }
+    texts
+}
+
+/// A constant, a test or an assignment.
+fn item(fields: u32, random: &mut Random) -> String {
+    if fields == 0 || random.once_in(3) {
+        return random.pick(&["0", "1"]).into();
+    }
+    format!("x{}{}{}", random.below(fields), random.pick(&["=", ":="]), random.below(2))
 }

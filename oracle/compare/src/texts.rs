@@ -52,7 +52,7 @@ fn damages(text: &[u8], random: &mut Random) -> Vec<Vec<u8>> {
         let (before, after) = text.split_at(at);
         all.push(before.to_vec());
         all.push([before, &after[after.len().min(1)..]].concat());
-        for &byte in b"012x=:+;*!()".iter().chain(&[random.bits() as u8]) {
+        for &byte in b"012Tx=:+&-^;*!()".iter().chain(&[random.bits() as u8]) {
             all.push([before, &[byte], after].concat());
             all.push([before, &[byte], &after[after.len().min(1)..]].concat());
         }

@@ -3,7 +3,10 @@
 use crate::random::Random;
 
 /// Bytes to damage a text with, mostly those of policies; a line can hold them.
-const BYTES: &[u8] = b"01x=:+;*!()0123456789 ,X[a~";
+const BYTES: &[u8] = b"01Tx=:+&-^;*!()0123456789 ,X[a~";
+
+/// The signs between products.
+const SIGNS: [&str; 3] = ["&", "-", "^"];
 
 /// How many fields a text names at most, so that its relation stays small.
 const NAMED: usize = 4;
@@ -37,13 +40,13 @@ fn deep(fields: u32, random: &mut Random) -> Vec<u8> {
     let mut writer = Writer::new(fields, random);
     if writer.random.once_in(3) {
         writer.product(2, 0);
-        writer.push("+");
+        writer.push_any(&["+", "+", "&", "-", "^"]);
     }
     let opened: Vec<bool> = (0..nesting).map(|_| writer.random.below(4) < negations).collect();
     for &negated in &opened {
         writer.push(if negated { "!" } else { "(" });
         if !negated && writer.random.once_in(16) {
-            writer.push("1;");
+            writer.push_any(&["1;", "1&", "0^"]);
         }
     }
     writer.predicate = true;
@@ -52,7 +55,7 @@ fn deep(fields: u32, random: &mut Random) -> Vec<u8> {
         writer.push(")");
     }
     if writer.random.once_in(3) {
-        writer.push(";");
+        writer.push_any(&[";", ";", "&", "-", "^"]);
         writer.product(2, 0);
     }
     writer.text
@@ -65,14 +68,13 @@ fn long(fields: u32, random: &mut Random) -> Vec<u8> {
     let mut writer = Writer::new(fields, random);
     writer.product(3, 0);
     while writer.text.len() < bytes {
-        let join = if writer.random.once_in(3) { "+" } else { ";" };
-        writer.push(join);
+        writer.push_any(&["+", "+", ";", ";", ";", "&", "-", "^"]);
         writer.starred(1, 0);
     }
     // Stars of a star change nothing, so they fill up to the length or one byte beyond it.
     let mut text = writer.text;
     text.truncate(bytes);
-    while text.last().is_some_and(|byte| !b"01*)".contains(byte)) {
+    while text.last().is_some_and(|byte| !b"01T*)".contains(byte)) {
         text.pop();
     }
     text.resize(bytes + random.below(2) as usize, b'*');
@@ -103,7 +105,7 @@ struct Writer<'a> {
     random: &'a mut Random,
     /// The fields that it names.
     fields: Vec<u32>,
-    /// In the operand of a `!`, where assignments and stars are rare.
+    /// In the operand of a `!`, where assignments, stars and `T` are rare.
     predicate: bool,
     text: Vec<u8>,
 }
@@ -124,11 +126,24 @@ impl Writer<'_> {
         self.text.extend(part.bytes());
     }
 
-    /// Products of about so many leaves together, inside so many `(` and `!`.
+    fn push_any(&mut self, parts: &[&str]) {
+        let part = self.random.pick(parts);
+        self.push(part);
+    }
+
+    /// Terms of about so many leaves together, inside so many `(` and `!`.
     fn sum(&mut self, size: u32, nesting: u32) {
-        let products = 1 + self.random.below(size.min(4));
-        for i in 0..products {
+        let terms = 1 + self.random.below(size.min(4));
+        for i in 0..terms {
             self.push(if i == 0 { "" } else { "+" });
+            self.term(size / terms, nesting);
+        }
+    }
+
+    fn term(&mut self, size: u32, nesting: u32) {
+        let products = 1 + self.random.below(size.clamp(1, 3));
+        for i in 0..products {
+            self.push_any(if i == 0 { &[""] } else { &SIGNS });
             self.product(size / products, nesting);
         }
     }
@@ -165,11 +180,13 @@ impl Writer<'_> {
         }
     }
 
-    /// `0`, `1`, a test or an assignment.
+    /// `0`, `1`, `T`, a test or an assignment.
     fn leaf(&mut self) {
+        if self.random.once_in(if self.predicate { 100 } else { 12 }) {
+            return self.push("T");
+        }
         if self.fields.is_empty() || self.random.once_in(8) {
-            let constant = self.random.pick(&["0", "1", "1"]);
-            return self.push(constant);
+            return self.push_any(&["0", "1", "1"]);
         }
         let assigned = self.random.once_in(if self.predicate { 100 } else { 2 });
         let (field, value) = (self.random.pick(&self.fields), self.random.below(2));

@@ -1,6 +1,9 @@
-//! Document 01's grammar: the policy that a whole text is, if it is one.
+//! Document 01's grammar as document 02 widens it: the policy that a whole text is, if it is one.
 
-use super::Policy;
+use super::{Mix, Policy};
+
+/// The signs between products.
+const SIGNS: [(u8, Mix); 3] = [(b'&', Mix::Both), (b'-', Mix::Minus), (b'^', Mix::Either)];
 
 /// The policy of a text whose atoms nest at most this deep.
 pub fn policy(text: &[u8], deepest: usize) -> Option<Policy> {
@@ -16,13 +19,22 @@ struct Reader<'a> {
 }
 
 impl Reader<'_> {
-    /// Products joined by `+`, inside so many `(` and `!`.
+    /// Terms joined by `+`, inside so many `(` and `!`.
     fn sum(&mut self, nesting: usize) -> Option<Policy> {
-        let mut sum = self.product(nesting)?;
+        let mut sum = self.term(nesting)?;
         while self.passes(b'+') {
-            sum = Policy::Sum(Box::new(sum), Box::new(self.product(nesting)?));
+            sum = Policy::Sum(Box::new(sum), Box::new(self.term(nesting)?));
         }
         Some(sum)
+    }
+
+    /// Products joined by the three signs.
+    fn term(&mut self, nesting: usize) -> Option<Policy> {
+        let mut term = self.product(nesting)?;
+        while let Some((_, mix)) = SIGNS.into_iter().find(|&(sign, _)| self.passes(sign)) {
+            term = Policy::Mix(mix, Box::new(term), Box::new(self.product(nesting)?));
+        }
+        Some(term)
     }
 
     /// Starred items joined by `;`.
@@ -51,6 +63,7 @@ impl Reader<'_> {
         match self.next()? {
             b'0' => Some(Policy::Zero),
             b'1' => Some(Policy::One),
+            b'T' => Some(Policy::Full),
             b'x' => self.field(at),
             b'!' => Some(Policy::Not { at, operand: Box::new(self.atom(nesting + 1)?) }),
             b'(' => {

@@ -1,4 +1,4 @@
-//! Policy texts, judged from document 01's words: a grammar that says yes or no, offsets by what can be gone on with.
+//! Policy texts, judged from the words of documents 01 and 02: a grammar that says yes or no, offsets by what can be gone on with.
 
 mod build;
 mod grammar;
@@ -15,12 +15,22 @@ const MOST_NESTING: usize = 32;
 pub enum Policy {
     Zero,
     One,
+    Full,
     Test { at: usize, field: u32, value: u32 },
     Assign { at: usize, field: u32, value: u32 },
     Not { at: usize, operand: Box<Policy> },
     Sum(Box<Policy>, Box<Policy>),
+    Mix(Mix, Box<Policy>, Box<Policy>),
     Product(Box<Policy>, Box<Policy>),
     Star(Box<Policy>),
+}
+
+/// How `&`, `-` and `^` join two policies: the pairs of both, those of the left one alone, those of exactly one.
+#[derive(Clone, Copy, Debug, PartialEq, Eq)]
+pub enum Mix {
+    Both,
+    Minus,
+    Either,
 }
 
 /// The policy of a text for this many fields, or the refusal, in document 01's order from 10 to 8.
@@ -46,7 +56,9 @@ impl Policy {
         while let Some(&part) = parts.get(at) {
             match part {
                 Policy::Not { operand, .. } | Policy::Star(operand) => parts.push(operand),
-                Policy::Sum(left, right) | Policy::Product(left, right) => {
+                Policy::Sum(left, right)
+                | Policy::Mix(_, left, right)
+                | Policy::Product(left, right) => {
                     parts.push(left);
                     parts.push(right);
                 }
@@ -68,12 +80,13 @@ impl Policy {
         self.parts().into_iter().filter_map(missing).min()
     }
 
-    /// The first `!` whose operand has an assignment or a star.
+    /// The first `!` whose operand has an assignment, a star or the full relation.
     fn offending_negation(&self) -> Option<usize> {
         let offending = |part: &Policy| match part {
             Policy::Not { at, operand } => {
-                let other =
-                    |part: &&Policy| matches!(part, Policy::Assign { .. } | Policy::Star(_));
+                let other = |part: &&Policy| {
+                    matches!(part, Policy::Assign { .. } | Policy::Star(_) | Policy::Full)
+                };
                 operand.parts().iter().any(other).then_some(*at)
             }
             _ => None,

@@ -1,7 +1,7 @@
--- `leaf` builds `0`, `1`, or what begins with none of `!`, `(`, `0` and `1`.
+-- `leaf` builds `0`, `1`, `T`, or what begins with none of `!`, `(`, `0`, `1` and `T`.
 use mathlib.Core.Path.{sym, _∙_}
 use borrow.Author.Needs.{needs}
-use Rattle.policy_build.proofs.Atoms.{zero-builds, one-builds, name-builds}
+use Rattle.policy_build.proofs.Atoms.{zero-builds, one-builds, full-builds, name-builds}
 use Rattle.policy_build.proofs.leaf.Statement.{statement}
 use Rattle.policy_build.proofs.leaf.Tie as tie
 
@@ -23,14 +23,24 @@ returns-2 c =
 
 returns-3 : tie.Need-returns-3
 returns-3 c =
+    let after-top-at-depth = c .before .before .before .before in
+    let at-if3 = after-top-at-depth .before .before .before in
+    let after-past = at-if3 .before .before .before in
+    let after-byte = after-past .before in
+    full-builds (sym (after-byte .byte .ensures .0) ∙ at-if3 .if3 .taken) (after-past .past .ensures) (after-top-at-depth .top-at-depth .ensures)
+
+returns-4 : tie.Need-returns-4
+returns-4 c =
     let after-named = c .before .before .before .before in
-    let at-if2 = after-named .before .before .before in
+    let at-if3 = after-named .before .before .before in
+    let at-if2 = at-if3 .before in
     let at-if1 = at-if2 .before in
     let after-past = at-if1 .before in
     let after-byte = after-past .before in
     let entry = after-byte .before .before .before .before in
     let e = after-byte .byte .ensures .0 in
-    name-builds (sym e) (λ x. entry .pre .1 (sym e ∙ x)) (λ x. entry .pre .2 (sym e ∙ x)) (at-if1 .if1 .left) (at-if2 .if2 .left) (after-past .past .ensures)
+    name-builds (sym e) (λ x. entry .pre .1 (sym e ∙ x)) (λ x. entry .pre .2 (sym e ∙ x)) (at-if1 .if1 .left) (at-if2 .if2 .left) (at-if3 .if3 .left)
+    (after-past .past .ensures)
     (after-named .named .ensures)
 
 pub leaf-spec : {M : Type 1} → statement M
@@ -50,4 +60,8 @@ leaf-spec =
     (λ c κs. search needs)
     (λ c. search needs)
     (λ c. search needs)
-    returns-3)
+    returns-3
+    (λ c κs. search needs)
+    (λ c. search needs)
+    (λ c. search needs)
+    returns-4)

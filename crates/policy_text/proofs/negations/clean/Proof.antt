@@ -5,7 +5,7 @@ use Prim.Native.Nat.{_-_, _≤_}
 use lib.ListN.{length, drop}
 use Rattle.policy_text.specs.XForms.{x-forms}
 use Rattle.policy_text.specs.Reading.{clean?}
-use Rattle.policy_text.proofs.Passes.{clean-none, clean-paren, clean-name, clean-bang, clean-digit}
+use Rattle.policy_text.proofs.Passes.{clean-none, clean-paren, clean-name, clean-bang, clean-leaf}
 use Rattle.policy_text.proofs.negations.clean.Statement.{statement}
 use Rattle.policy_text.proofs.negations.clean.Tie as tie
 
@@ -49,7 +49,7 @@ returns-3 : tie.Need-returns-3 Inv-loop μ-loop
 returns-3 c =
     let in-loop = c .before .before .before .before in
     let at-loop = in-loop .before in
-    sym (at-loop .loop .inv .2 ∙ clean-digit _ _ (in-loop .loop-test .taken) (c .before .before .if1 .left) (c .before .if2 .left) (c .if3 .taken))
+    sym (at-loop .loop .inv .2 ∙ clean-leaf _ _ (in-loop .loop-test .taken) (c .before .before .if1 .left) (c .before .if2 .left) (c .if3 .taken))
 
 add-i : tie.Need-add-i Inv-loop μ-loop
 add-i c = omega arith

@@ -4,7 +4,7 @@ use mathlib.Core.Path.{_≡_, refl, sym, _∙_}
 use Prim.Native.Nat.{_+_, _-_, _≤_}
 use lib.ListN.{length, drop}
 use Rattle.policy_text.specs.Reading.{clean-inside?}
-use Rattle.policy_text.proofs.Passes.{open-most, inside-none, inside-colon, inside-star, inside-later, inside-closed}
+use Rattle.policy_text.proofs.Passes.{open-most, inside-none, inside-colon, inside-star, inside-full, inside-later, inside-closed}
 use Rattle.policy_text.proofs.negations.clean_inside.Statement.{statement}
 use Rattle.policy_text.proofs.negations.clean_inside.Tie as tie
 
@@ -37,6 +37,14 @@ returns-3 c =
     sym (at-loop .loop .inv .3 ∙ inside-star _ _ _ (at-loop .loop .inv .1) (at-if1 .if1 .left) (in-loop .loop-test .taken) (c .before .if2 .left)
     (c .if3 .taken))
 
+returns-4 : tie.Need-returns-4 Inv-loop μ-loop
+returns-4 c =
+    let at-if1 = c .before .before .before .before in
+    let in-loop = at-if1 .before in
+    let at-loop = in-loop .before in
+    sym (at-loop .loop .inv .3 ∙ inside-full _ _ _ (at-loop .loop .inv .1) (at-if1 .if1 .left) (in-loop .loop-test .taken) (c .before .before .if2 .left)
+    (c .before .if3 .left) (c .if4 .taken))
+
 opened-requires : tie.Need-opened-requires Inv-loop μ-loop
 opened-requires c κs = omega arith
 
@@ -48,18 +56,20 @@ loop-less c = omega arith
 
 loop-again : tie.Need-loop-again Inv-loop μ-loop
 loop-again c =
-    let at-if1 = c .before .before .before .before in
+    let at-if2 = c .before .before .before in
+    let at-if1 = at-if2 .before .before in
     let in-loop = at-if1 .before in
     let at-loop = in-loop .before in (
       omega arith,
       omega arith,
       (let h = open-most _ _ _ (c .opened .ensures) in omega arith),
       at-loop .loop .inv .3 ∙ inside-later _ _ _ _
-          (at-loop .loop .inv .1) (at-if1 .if1 .left) (in-loop .loop-test .taken) (c .before .before .if2 .left) (c .before .if3 .left) (c .opened .ensures),
+          (at-loop .loop .inv .1) (at-if1 .if1 .left) (in-loop .loop-test .taken) (at-if2 .if2 .left) (c .before .before .if3 .left) (c .before .if4 .left)
+          (c .opened .ensures),
     )
 
-returns-4 : tie.Need-returns-4 Inv-loop μ-loop
-returns-4 c = sym (c .before .loop .inv .3 ∙ inside-closed _ _ (omega arith))
+returns-5 : tie.Need-returns-5 Inv-loop μ-loop
+returns-5 c = sym (c .before .loop .inv .3 ∙ inside-closed _ _ (omega arith))
 
 pub clean-inside-spec : {M : Type 1} → statement M
 clean-inside-spec =
@@ -72,8 +82,9 @@ clean-inside-spec =
     shared-slice-read-b
     returns-2
     returns-3
+    returns-4
     opened-requires
     add-i
     loop-less
     loop-again
-    returns-4)
+    returns-5)

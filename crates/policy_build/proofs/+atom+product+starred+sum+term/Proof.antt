@@ -1,31 +1,50 @@
--- The four functions of the build pass build a part of their rank; the measure is the remaining text, and then the rank. The loops keep `Carried`.
-use mathlib.Core.Path.{refl, sym, _∙_}
+-- The five functions of the build pass build a part of their rank; the measure is the remaining text, and then the rank. The loops keep `Carried`.
+use mathlib.Core.Path.{refl, sym, ap, _∙_}
 use Prim.Native.Nat.{ℕ, _<_, _+_, _-_, _*_}
 use native.Mathlib.Omega.{arith}
 use lib.ListN.{length}
 use borrow.Author.Needs.{needs}
 use borrow.Fn.Kinds.{In}
 use borrow.Fn.PlainCycle.{Measures, is, falls, and}
-use Rattle.model.specs.Policies.{plus, seq}
+use Rattle.model.proofs.Bools.{no-true}
+use Rattle.memory.proofs.Steps.{performs-by}
 use Rattle.policy_text.specs.XForms.{x-forms}
-use Rattle.policy_text.specs.Grammar.{Starred, Product, Sum}
-use Rattle.policy_build.specs.Building.{built, after-product, after-sum}
+use Rattle.policy_text.specs.Grammar.{Starred, Product, Term, Sum}
+use Rattle.policy_text.specs.Posts.{mixes?}
+use Rattle.policy_text.proofs.Moves.{not-true, not-false}
+use Rattle.policy_build.specs.Building.{built, after-product, after-term, after-sum}
 use Rattle.policy_build.proofs.Atoms.{negation-builds, paren-builds}
-use Rattle.policy_build.proofs.Loops.{joined, starred-looped, product-looped, sum-looped, seq-program, plus-program}
-use Rattle.policy_build.proofs.Loops.{Carried, StarCarried, loop-begins, loop-done, loop-joins, loop-stars}
+use Rattle.policy_build.proofs.Chains.{seq-joins, mix-joins, plus-joins, seq-by, mix-by, plus-by}
+use Rattle.policy_build.proofs.Loops.{
+  joined,
+  starred-looped,
+  product-looped,
+  term-looped,
+  sum-looped,
+  seq-program,
+  term-program,
+  plus-program,
+  sign-byte,
+}
+use Rattle.policy_build.proofs.Loops.{mix-at, Carried, StarCarried, loop-begins, loop-done, loop-joins, loop-stars}
 use Rattle.policy_build.proofs.atom.Reads as atom
 use Rattle.policy_build.proofs.atom.Kinds as atom-kinds
-use Rattle.policy_build.proofs.+atom+product+starred+sum.Lts-atom as atom-lts
+use Rattle.policy_build.proofs.+atom+product+starred+sum+term.Lts-atom as atom-lts
 use Rattle.policy_build.proofs.product.Reads as product
 use Rattle.policy_build.proofs.product.Kinds as product-kinds
-use Rattle.policy_build.proofs.+atom+product+starred+sum.Lts-product as product-lts
+use Rattle.policy_build.proofs.+atom+product+starred+sum+term.Lts-product as product-lts
 use Rattle.policy_build.proofs.starred.Reads as starred
 use Rattle.policy_build.proofs.starred.Kinds as starred-kinds
-use Rattle.policy_build.proofs.+atom+product+starred+sum.Lts-starred as starred-lts
+use Rattle.policy_build.proofs.+atom+product+starred+sum+term.Lts-starred as starred-lts
 use Rattle.policy_build.proofs.sum.Reads as sum
 use Rattle.policy_build.proofs.sum.Kinds as sum-kinds
-use Rattle.policy_build.proofs.+atom+product+starred+sum.Lts-sum as sum-lts
+use Rattle.policy_build.proofs.+atom+product+starred+sum+term.Lts-sum as sum-lts
+use Rattle.policy_build.proofs.term.Reads as term
+use Rattle.policy_build.proofs.term.Kinds as term-kinds
+use Rattle.policy_build.proofs.+atom+product+starred+sum+term.Lts-term as term-lts
 use Rattle.policy_build.proofs.leaf.Reads as leaf-reads
+use Rattle.policy_build.proofs.mixed.Reads as mixed-reads
+use Rattle.policy_text.proofs.mixes.Reads as mixes-reads
 use Rattle.policy_build.proofs.items.byte.Reads as byte-reads
 use Rattle.policy_build.proofs.items.past.Reads as past-reads
 use Rattle.relations.proofs.difference.Reads as difference-reads
@@ -33,20 +52,23 @@ use Rattle.relations.proofs.one_at_depth.Reads as one-at-depth-reads
 use Rattle.relation_products.proofs.sequence.Reads as sequence-reads
 use Rattle.relation_products.proofs.star.Reads as star-reads
 use Rattle.relations.proofs.union.Reads as union-reads
-use Rattle.policy_build.proofs.+atom+product+starred+sum.{statement}
-use Rattle.policy_build.proofs.+atom+product+starred+sum.Tie.{close}
+use Rattle.policy_build.proofs.+atom+product+starred+sum+term.{statement}
+use Rattle.policy_build.proofs.+atom+product+starred+sum+term.Tie.{close}
 
 abbrev μ-atom : Measures 3 atom-kinds.ps ℕ
-μ-atom κs a = 4 * (length (a .0 .now) - a .1 .0)
+μ-atom κs a = 5 * (length (a .0 .now) - a .1 .0)
 
 abbrev μ-product : Measures 3 product-kinds.ps ℕ
-μ-product κs a = 4 * (length (a .0 .now) - a .1 .0) + 2
+μ-product κs a = 5 * (length (a .0 .now) - a .1 .0) + 2
 
 abbrev μ-starred : Measures 3 starred-kinds.ps ℕ
-μ-starred κs a = 4 * (length (a .0 .now) - a .1 .0) + 1
+μ-starred κs a = 5 * (length (a .0 .now) - a .1 .0) + 1
 
 abbrev μ-sum : Measures 3 sum-kinds.ps ℕ
-μ-sum κs a = 4 * (length (a .0 .now) - a .1 .0) + 3
+μ-sum κs a = 5 * (length (a .0 .now) - a .1 .0) + 4
+
+abbrev μ-term : Measures 3 term-kinds.ps ℕ
+μ-term κs a = 5 * (length (a .0 .now) - a .1 .0) + 3
 
 abbrev atom-at : ℕ → In 3 atom-kinds.ps
 atom-at t = and 3 atom-kinds.ps (is 3 atom-kinds.ps μ-atom t) atom.Pre
@@ -71,6 +93,12 @@ sum-at t = and 3 sum-kinds.ps (is 3 sum-kinds.ps μ-sum t) sum.Pre
 
 abbrev sum-below : ℕ → In 3 sum-kinds.ps
 sum-below t = and 3 sum-kinds.ps (falls 3 sum-kinds.ps _<_ μ-sum t) sum.Pre
+
+abbrev term-at : ℕ → In 3 term-kinds.ps
+term-at t = and 3 term-kinds.ps (is 3 term-kinds.ps μ-term t) term.Pre
+
+abbrev term-below : ℕ → In 3 term-kinds.ps
+term-below t = and 3 term-kinds.ps (falls 3 term-kinds.ps _<_ μ-term t) term.Pre
 
 abbrev atom-calls : ℕ → atom-lts.Claims
 atom-calls t = (
@@ -97,11 +125,23 @@ abbrev starred-calls : ℕ → starred-lts.Claims
 starred-calls t = (atom-below t, atom.Post, byte-reads.Asked, byte-reads.Learnt, star-reads.Asked, star-reads.Learnt)
 
 abbrev sum-calls : ℕ → sum-lts.Claims
-sum-calls t = (product-below t, product.Post, byte-reads.Asked, byte-reads.Learnt, union-reads.Asked, union-reads.Learnt)
+sum-calls t = (term-below t, term.Post, byte-reads.Asked, byte-reads.Learnt, union-reads.Asked, union-reads.Learnt)
+
+abbrev term-calls : ℕ → term-lts.Claims
+term-calls t = (
+  product-below t,
+  product.Post,
+  byte-reads.Asked,
+  byte-reads.Learnt,
+  mixes-reads.Asked,
+  mixes-reads.Learnt,
+  mixed-reads.Asked,
+  mixed-reads.Learnt,
+)
 
 abbrev product-Inv : product-lts.InvT-loop
-product-Inv text at nodes₀ work₀ k made₀ end₀ nodes work made end = Carried (Product x-forms) after-product 59
-    (joined seq (Starred x-forms)) k text at nodes₀ work₀
+product-Inv text at nodes₀ work₀ k made₀ end₀ nodes work made end = Carried (Product x-forms) after-product seq-joins
+    (joined seq-by (Starred x-forms)) k text at nodes₀ work₀
     (built made₀ end₀) nodes work (built made end)
 
 abbrev product-μ : product-lts.MeasureT-loop
@@ -115,14 +155,90 @@ abbrev starred-μ : starred-lts.MeasureT-loop
 starred-μ text at nodes₀ work₀ k made₀ end₀ nodes work made end = length text - end
 
 abbrev sum-Inv : sum-lts.InvT-loop
-sum-Inv text at nodes₀ work₀ k made₀ end₀ nodes work made end = Carried (Sum x-forms) after-sum 43 (joined plus (Product x-forms)) k text at nodes₀ work₀
-    (built made₀ end₀) nodes work (built made end)
+sum-Inv text at nodes₀ work₀ k made₀ end₀ nodes work made end = Carried (Sum x-forms) after-sum plus-joins (joined plus-by (Term x-forms)) k text at nodes₀
+    work₀ (built made₀ end₀) nodes work (built made end)
 
 abbrev sum-μ : sum-lts.MeasureT-loop
 sum-μ text at nodes₀ work₀ k made₀ end₀ nodes work made end = length text - end
 
-pub +atom+product+starred+sum-spec : {M : Type 1} → statement M
-+atom+product+starred+sum-spec = close μ-atom μ-product μ-starred μ-sum
+abbrev term-Inv : term-lts.InvT-loop
+term-Inv text at nodes₀ work₀ k made₀ end₀ nodes work made end = Carried (Term x-forms) after-term mix-joins (joined mix-by (Product x-forms)) k text at nodes₀
+    work₀ (built made₀ end₀) nodes work (built made end)
+
+abbrev term-μ : term-lts.MeasureT-loop
+term-μ text at nodes₀ work₀ k made₀ end₀ nodes work made end = length text - end
+
+-- the needs of `term`
+term-product-requires : (t : ℕ) → term-lts.Need-product-requires (term-calls t) (term-at t) term.Post term-Inv term-μ
+term-product-requires t c κs =
+    let entry = c .before .before .before .before .before in
+    (omega (arith, entry .pre .0), entry .pre .1)
+
+term-loop-holds : (t : ℕ) → term-lts.Need-loop-holds (term-calls t) (term-at t) term.Post term-Inv term-μ
+term-loop-holds t c =
+    let after-product-place = c .before .before .before .before .before in
+    loop-begins term-looped (after-product-place .product .ensures)
+
+term-same-length : (t : ℕ) → term-lts.Need-same-length (term-calls t) (term-at t) term.Post term-Inv term-μ
+term-same-length t c =
+    let at-loop = c .before .before .before in
+    let after-nodes = at-loop .before .before .before .before .before in
+    omega (arith, after-nodes .nodes .given, at-loop .loop .inv .long)
+
+term-same-length-2 : (t : ℕ) → term-lts.Need-same-length-2 (term-calls t) (term-at t) term.Post term-Inv term-μ
+term-same-length-2 t c =
+    let at-loop = c .before .before .before in
+    let after-work = at-loop .before .before .before in
+    omega (arith, after-work .work .given, at-loop .loop .inv .work-length)
+
+term-returns : (t : ℕ) → term-lts.Need-returns (term-calls t) (term-at t) term.Post term-Inv term-μ
+term-returns t c =
+    let at-loop = c .before .before .before in
+    let after-product-place = at-loop .before .before .before .before .before .before in
+    loop-done term-looped (after-product-place .product .ensures) (at-loop .loop .inv)
+    (no-true (ap mixes? (sym (c .before .before .byte .ensures .0)) ∙ sym (c .before .mixes .ensures) ∙ not-true _ (c .if1 .taken)))
+
+term-add-product : (t : ℕ) → term-lts.Need-add-product (term-calls t) (term-at t) term.Post term-Inv term-μ
+term-add-product t c = let l = c .before .before .byte .ensures .1 (sign-byte _ (sym (c .before .mixes .ensures) ∙ not-false _ (c .if1 .left))) in omega
+    (arith, l)
+
+term-product-requires-2 : (t : ℕ) → term-lts.Need-product-requires-2 (term-calls t) (term-at t) term.Post term-Inv term-μ
+term-product-requires-2 t c κs =
+    let after-mixes = c .before .before .before in
+    let after-byte = after-mixes .before in
+    let at-loop = after-byte .before in
+    let entry = at-loop .before .before .before .before .before .before .before .before .before .before .before .before in
+    let l = after-byte .byte .ensures .1 (sign-byte _ (sym (after-mixes .mixes .ensures) ∙ not-false _ (c .before .before .if1 .left))) in
+    (omega (arith, l, at-loop .loop .inv .from, entry .pre .0), omega (arith, l))
+
+term-loop-less : (t : ℕ) → term-lts.Need-loop-less (term-calls t) (term-at t) term.Post term-Inv term-μ
+term-loop-less t c =
+    let after-product2 = c .before .before .before .before .before .before .before .before .before .before .before .before in
+    let at-if1 = after-product2 .before .before .before in
+    let after-mixes = at-if1 .before in
+    let after-byte = after-mixes .before in
+    let l = after-byte .byte .ensures .1 (sign-byte _ (sym (after-mixes .mixes .ensures) ∙ not-false _ (at-if1 .if1 .left))) in
+    omega (arith, l, after-product2 .product2 .ensures .from)
+
+term-loop-again : (t : ℕ) → term-lts.Need-loop-again (term-calls t) (term-at t) term.Post term-Inv term-μ
+term-loop-again t c =
+    let after-nodes3 = c .before .before .before in
+    let after-mixed = after-nodes3 .before in
+    let after-work2 = after-mixed .before .before .before .before .before in
+    let after-nodes2 = after-work2 .before .before in
+    let after-product2 = after-nodes2 .before in
+    let at-if1 = after-product2 .before .before .before in
+    let after-mixes = at-if1 .before in
+    let after-byte = after-mixes .before in
+    let at-loop = after-byte .before in
+    loop-joins term-looped (term-program _) (ap mixes? (sym (after-byte .byte .ensures .0)) ∙ sym (after-mixes .mixes .ensures) ∙ not-false _
+    (at-if1 .if1 .left)) (after-product2 .product2 .ensures)
+    (performs-by (mix-at _ _ _ (sym (after-byte .byte .ensures .0))) (after-mixed .mixed .ensures)) refl (at-loop .loop .inv)
+    (omega (arith, after-nodes3 .nodes3 .given, after-nodes2 .nodes2 .given, at-loop .loop .inv .long))
+    (omega (arith, c .before .work3 .given, after-work2 .work2 .given, at-loop .loop .inv .work-length))
+
+pub +atom+product+starred+sum+term-spec : {M : Type 1} → statement M
++atom+product+starred+sum+term-spec = close μ-atom μ-product μ-starred μ-sum μ-term
     (λ t. atom-lts.spec (atom-calls t) (atom-at t) atom.Post
     (λ c κs. search needs)
     (λ c. let l = c .before .byte .ensures .1 (omega (arith, c .if1 .taken)) in omega (arith, l))
@@ -239,7 +355,7 @@ pub +atom+product+starred+sum-spec : {M : Type 1} → statement M
     (λ c κs.
     let entry = c .before .before .before .before .before in
     (omega (arith, entry .pre .0), entry .pre .1))
-    (λ c. loop-begins sum-looped (c .before .before .before .before .before .product .ensures))
+    (λ c. loop-begins sum-looped (c .before .before .before .before .before .term .ensures))
     (λ c κs. search needs)
     (λ c. let l = c .before .byte .ensures .1 (omega (arith, c .if1 .taken)) in omega (arith, l))
     (λ c κs.
@@ -250,20 +366,20 @@ pub +atom+product+starred+sum-spec : {M : Type 1} → statement M
     (omega (arith, l, at-loop .loop .inv .from, entry .pre .0), omega (arith, l)))
     (λ c κs. search needs)
     (λ c.
-    let after-product2 = c .before .before .before .before .before .before .before .before .before .before .before .before in
-    let at-if1 = after-product2 .before .before .before in
+    let after-term2 = c .before .before .before .before .before .before .before .before .before .before .before .before in
+    let at-if1 = after-term2 .before .before .before in
     let after-byte = at-if1 .before in
-    let l = after-byte .byte .ensures .1 (omega (arith, at-if1 .if1 .taken)) in omega (arith, l, after-product2 .product2 .ensures .from))
+    let l = after-byte .byte .ensures .1 (omega (arith, at-if1 .if1 .taken)) in omega (arith, l, after-term2 .term2 .ensures .from))
     (λ c.
     let after-nodes3 = c .before .before .before in
     let after-union = after-nodes3 .before in
     let after-work2 = after-union .before .before .before .before .before in
     let after-nodes2 = after-work2 .before .before in
-    let after-product2 = after-nodes2 .before in
-    let at-if1 = after-product2 .before .before .before in
+    let after-term2 = after-nodes2 .before in
+    let at-if1 = after-term2 .before .before .before in
     let after-byte = at-if1 .before in
     let at-loop = after-byte .before in
-    loop-joins sum-looped (plus-program _) (sym (after-byte .byte .ensures .0) ∙ at-if1 .if1 .taken) (after-product2 .product2 .ensures)
+    loop-joins sum-looped (plus-program _) (sym (after-byte .byte .ensures .0) ∙ at-if1 .if1 .taken) (after-term2 .term2 .ensures)
     (after-union .union .ensures) refl (at-loop .loop .inv) (omega (arith, after-nodes3 .nodes3 .given, after-nodes2 .nodes2 .given, at-loop .loop .inv .long))
     (omega (arith, c .before .work3 .given, after-work2 .work2 .given, at-loop .loop .inv .work-length)))
     (λ c.
@@ -273,5 +389,23 @@ pub +atom+product+starred+sum-spec : {M : Type 1} → statement M
     let after-work = c .before .before .before .before .before in
     omega (arith, after-work .work .given, c .before .before .loop .inv .work-length))
     (λ c.
-    let after-product-place = c .before .before .before .before .before .before .before .before in
-    loop-done sum-looped (after-product-place .product .ensures) (c .before .before .loop .inv) (λ e. c .if1 .left (c .before .byte .ensures .0 ∙ e))))
+    let after-term = c .before .before .before .before .before .before .before .before in
+    loop-done sum-looped (after-term .term .ensures) (c .before .before .loop .inv) (λ e. c .if1 .left (c .before .byte .ensures .0 ∙ e))))
+    (λ t. term-lts.spec
+    (term-calls t)
+    (term-at t)
+    term.Post
+    term-Inv
+    term-μ
+    (term-product-requires t)
+    (term-loop-holds t)
+    (λ c κs. search needs)
+    (λ c κs. search needs)
+    (term-same-length t)
+    (term-same-length-2 t)
+    (term-returns t)
+    (term-add-product t)
+    (term-product-requires-2 t)
+    (λ c κs. search needs)
+    (term-loop-less t)
+    (term-loop-again t))
