@@ -216,12 +216,13 @@ pub term-program : (k b : ℕ) (x y : Policy)
 unfolding policy-program
 term-program k b x y = refl
 
-pub mix-at : {b c : ℕ} (k p q : ℕ) → b ≡ c → mix-program (mix-of b) k p q ≡ mix-program (mix-of c) k p q
-mix-at k p q e = ap (λ b. mix-program (mix-of b) k p q) e
-
 pub plus-program : (k b : ℕ) (x y : Policy) → policy-program k (plus-by b x y) ≡ (policy-program k x >>= λ p. policy-program k y >>= λ q. union rel k p q)
 unfolding policy-program
 plus-program k b x y = refl
+
+-- a sign that was read is the byte of the text
+pub mix-at : {b c : ℕ} (k p q : ℕ) → b ≡ c → mix-program (mix-of b) k p q ≡ mix-program (mix-of c) k p q
+mix-at k p q e = ap (λ b. mix-program (mix-of b) k p q) e
 
 -- a text that is a sum, to its end
 pub text-builds : {X : Lexicon} {k : ℕ} {t : List ℕ} {s : RunState} {m m′ w w′ : List ℕ} {r : Built} → Builds (Sum X) after-sum k t 0 s m m′ w w′ r

@@ -92,7 +92,7 @@ abbrev pub text-relates : ℕ → List ℕ → Rel
 text-relates k t p q = (x : Policy) × Sum x-forms 32 t x × meaning k x p q
 
 -- 01: "A text keeps the rules when it has at most 4,096 bytes, follows the grammar, nests no atom deeper than 32, names only fields
--- below k and has neither `:=` nor `*` in the operand of a `!`."
+-- below k and has neither `:=` nor `*` in the operand of a `!`." 02, M-104: the grammar is the wider one, and `T` counts with these two
 pub record WithinRules (k : ℕ) (t : List ℕ) : Type 0 where
   pub short : length t ≤ most-bytes
   pub rules : KeepsRules x-forms k t

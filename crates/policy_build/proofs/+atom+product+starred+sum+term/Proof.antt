@@ -15,18 +15,8 @@ use Rattle.policy_text.proofs.Moves.{not-true, not-false}
 use Rattle.policy_build.specs.Building.{built, after-product, after-term, after-sum}
 use Rattle.policy_build.proofs.Atoms.{negation-builds, paren-builds}
 use Rattle.policy_build.proofs.Chains.{seq-joins, mix-joins, plus-joins, seq-by, mix-by, plus-by}
-use Rattle.policy_build.proofs.Loops.{
-  joined,
-  starred-looped,
-  product-looped,
-  term-looped,
-  sum-looped,
-  seq-program,
-  term-program,
-  plus-program,
-  sign-byte,
-}
-use Rattle.policy_build.proofs.Loops.{mix-at, Carried, StarCarried, loop-begins, loop-done, loop-joins, loop-stars}
+use Rattle.policy_build.proofs.Loops.{joined, starred-looped, product-looped, term-looped, sum-looped, seq-program, term-program, plus-program}
+use Rattle.policy_build.proofs.Loops.{sign-byte, mix-at, Carried, StarCarried, loop-begins, loop-done, loop-joins, loop-stars}
 use Rattle.policy_build.proofs.atom.Reads as atom
 use Rattle.policy_build.proofs.atom.Kinds as atom-kinds
 use Rattle.policy_build.proofs.+atom+product+starred+sum+term.Lts-atom as atom-lts
