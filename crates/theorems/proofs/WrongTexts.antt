@@ -163,7 +163,8 @@ sum-text = zero-text ++ (43 ∷ one-text)
 pub sum-is-another : (H : History) → H .width ≡ 1 → (g h : ℕ) → AcceptedIn (H .calls) sum-text g → AcceptedIn (H .calls) zero-text h → ¬ (g ≡ h)
 unfolding meaning
 sum-is-another = differ sum-text zero-text (plus fail skip) fail (0 ∷ []) (0 ∷ [])
-    (u-plus (u-one (t-one (p-one (s-atom a-zero)))) (t-one (p-one (s-atom a-one)))) (u-one (t-one (p-one (s-atom a-zero)))) zero-packet zero-packet (inr refl) (λ m. m)
+    (u-plus (u-one (t-one (p-one (s-atom a-zero)))) (t-one (p-one (s-atom a-one)))) (u-one (t-one (p-one (s-atom a-zero))))
+    zero-packet zero-packet (inr refl) (λ m. m)
 
 -- `T` is not the identity
 abbrev full-text : List ℕ

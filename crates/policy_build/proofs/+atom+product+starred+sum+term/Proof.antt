@@ -1,162 +1,33 @@
 -- The five functions of the build pass build a part of their rank; the measure is the remaining text, and then the rank. The loops keep `Carried`.
+mod Claims
 use mathlib.Core.Path.{refl, sym, ap, _∙_}
-use Prim.Native.Nat.{ℕ, _<_, _+_, _-_, _*_}
+use Prim.Native.Nat.{ℕ}
 use native.Mathlib.Omega.{arith}
-use lib.ListN.{length}
 use borrow.Author.Needs.{needs}
-use borrow.Fn.Kinds.{In}
-use borrow.Fn.PlainCycle.{Measures, is, falls, and}
 use Rattle.model.proofs.Bools.{no-true}
 use Rattle.memory.proofs.Steps.{performs-by}
-use Rattle.policy_text.specs.XForms.{x-forms}
-use Rattle.policy_text.specs.Grammar.{Starred, Product, Term, Sum}
 use Rattle.policy_text.specs.Posts.{mixes?}
 use Rattle.policy_text.proofs.Moves.{not-true, not-false}
-use Rattle.policy_build.specs.Building.{built, after-product, after-term, after-sum}
+use Rattle.policy_build.specs.Building.{after-term}
 use Rattle.policy_build.proofs.Atoms.{negation-builds, paren-builds}
-use Rattle.policy_build.proofs.Chains.{seq-joins, mix-joins, plus-joins, seq-by, mix-by, plus-by}
-use Rattle.policy_build.proofs.Loops.{joined, starred-looped, product-looped, term-looped, sum-looped, seq-program, term-program, plus-program}
-use Rattle.policy_build.proofs.Loops.{sign-byte, mix-at, Carried, StarCarried, loop-begins, loop-done, loop-joins, loop-stars}
+use Rattle.policy_build.proofs.Loops.{starred-looped, product-looped, term-looped, sum-looped, seq-program, term-program, plus-program}
+use Rattle.policy_build.proofs.Loops.{sign-byte, mix-at, loop-begins, loop-done, loop-joins, loop-stars}
 use Rattle.policy_build.proofs.atom.Reads as atom
-use Rattle.policy_build.proofs.atom.Kinds as atom-kinds
 use Rattle.policy_build.proofs.+atom+product+starred+sum+term.Lts-atom as atom-lts
 use Rattle.policy_build.proofs.product.Reads as product
-use Rattle.policy_build.proofs.product.Kinds as product-kinds
 use Rattle.policy_build.proofs.+atom+product+starred+sum+term.Lts-product as product-lts
 use Rattle.policy_build.proofs.starred.Reads as starred
-use Rattle.policy_build.proofs.starred.Kinds as starred-kinds
 use Rattle.policy_build.proofs.+atom+product+starred+sum+term.Lts-starred as starred-lts
 use Rattle.policy_build.proofs.sum.Reads as sum
-use Rattle.policy_build.proofs.sum.Kinds as sum-kinds
 use Rattle.policy_build.proofs.+atom+product+starred+sum+term.Lts-sum as sum-lts
 use Rattle.policy_build.proofs.term.Reads as term
-use Rattle.policy_build.proofs.term.Kinds as term-kinds
 use Rattle.policy_build.proofs.+atom+product+starred+sum+term.Lts-term as term-lts
-use Rattle.policy_build.proofs.leaf.Reads as leaf-reads
-use Rattle.policy_build.proofs.mixed.Reads as mixed-reads
-use Rattle.policy_text.proofs.mixes.Reads as mixes-reads
-use Rattle.policy_build.proofs.items.byte.Reads as byte-reads
-use Rattle.policy_build.proofs.items.past.Reads as past-reads
-use Rattle.relations.proofs.difference.Reads as difference-reads
-use Rattle.relations.proofs.one_at_depth.Reads as one-at-depth-reads
-use Rattle.relation_products.proofs.sequence.Reads as sequence-reads
-use Rattle.relation_products.proofs.star.Reads as star-reads
-use Rattle.relations.proofs.union.Reads as union-reads
 use Rattle.policy_build.proofs.+atom+product+starred+sum+term.{statement}
 use Rattle.policy_build.proofs.+atom+product+starred+sum+term.Tie.{close}
-
-abbrev μ-atom : Measures 3 atom-kinds.ps ℕ
-μ-atom κs a = 5 * (length (a .0 .now) - a .1 .0)
-
-abbrev μ-product : Measures 3 product-kinds.ps ℕ
-μ-product κs a = 5 * (length (a .0 .now) - a .1 .0) + 2
-
-abbrev μ-starred : Measures 3 starred-kinds.ps ℕ
-μ-starred κs a = 5 * (length (a .0 .now) - a .1 .0) + 1
-
-abbrev μ-sum : Measures 3 sum-kinds.ps ℕ
-μ-sum κs a = 5 * (length (a .0 .now) - a .1 .0) + 4
-
-abbrev μ-term : Measures 3 term-kinds.ps ℕ
-μ-term κs a = 5 * (length (a .0 .now) - a .1 .0) + 3
-
-abbrev atom-at : ℕ → In 3 atom-kinds.ps
-atom-at t = and 3 atom-kinds.ps (is 3 atom-kinds.ps μ-atom t) atom.Pre
-
-abbrev atom-below : ℕ → In 3 atom-kinds.ps
-atom-below t = and 3 atom-kinds.ps (falls 3 atom-kinds.ps _<_ μ-atom t) atom.Pre
-
-abbrev product-at : ℕ → In 3 product-kinds.ps
-product-at t = and 3 product-kinds.ps (is 3 product-kinds.ps μ-product t) product.Pre
-
-abbrev product-below : ℕ → In 3 product-kinds.ps
-product-below t = and 3 product-kinds.ps (falls 3 product-kinds.ps _<_ μ-product t) product.Pre
-
-abbrev starred-at : ℕ → In 3 starred-kinds.ps
-starred-at t = and 3 starred-kinds.ps (is 3 starred-kinds.ps μ-starred t) starred.Pre
-
-abbrev starred-below : ℕ → In 3 starred-kinds.ps
-starred-below t = and 3 starred-kinds.ps (falls 3 starred-kinds.ps _<_ μ-starred t) starred.Pre
-
-abbrev sum-at : ℕ → In 3 sum-kinds.ps
-sum-at t = and 3 sum-kinds.ps (is 3 sum-kinds.ps μ-sum t) sum.Pre
-
-abbrev sum-below : ℕ → In 3 sum-kinds.ps
-sum-below t = and 3 sum-kinds.ps (falls 3 sum-kinds.ps _<_ μ-sum t) sum.Pre
-
-abbrev term-at : ℕ → In 3 term-kinds.ps
-term-at t = and 3 term-kinds.ps (is 3 term-kinds.ps μ-term t) term.Pre
-
-abbrev term-below : ℕ → In 3 term-kinds.ps
-term-below t = and 3 term-kinds.ps (falls 3 term-kinds.ps _<_ μ-term t) term.Pre
-
-abbrev atom-calls : ℕ → atom-lts.Claims
-atom-calls t = (
-  byte-reads.Asked,
-  byte-reads.Learnt,
-  atom-below t,
-  atom.Post,
-  one-at-depth-reads.Asked,
-  one-at-depth-reads.Learnt,
-  difference-reads.Asked,
-  difference-reads.Learnt,
-  sum-below t,
-  sum.Post,
-  past-reads.Asked,
-  past-reads.Learnt,
-  leaf-reads.Asked,
-  leaf-reads.Learnt,
-)
-
-abbrev product-calls : ℕ → product-lts.Claims
-product-calls t = (starred-below t, starred.Post, byte-reads.Asked, byte-reads.Learnt, sequence-reads.Asked, sequence-reads.Learnt)
-
-abbrev starred-calls : ℕ → starred-lts.Claims
-starred-calls t = (atom-below t, atom.Post, byte-reads.Asked, byte-reads.Learnt, star-reads.Asked, star-reads.Learnt)
-
-abbrev sum-calls : ℕ → sum-lts.Claims
-sum-calls t = (term-below t, term.Post, byte-reads.Asked, byte-reads.Learnt, union-reads.Asked, union-reads.Learnt)
-
-abbrev term-calls : ℕ → term-lts.Claims
-term-calls t = (
-  product-below t,
-  product.Post,
-  byte-reads.Asked,
-  byte-reads.Learnt,
-  mixes-reads.Asked,
-  mixes-reads.Learnt,
-  mixed-reads.Asked,
-  mixed-reads.Learnt,
-)
-
-abbrev product-Inv : product-lts.InvT-loop
-product-Inv text at nodes₀ work₀ k made₀ end₀ nodes work made end = Carried (Product x-forms) after-product seq-joins
-    (joined seq-by (Starred x-forms)) k text at nodes₀ work₀
-    (built made₀ end₀) nodes work (built made end)
-
-abbrev product-μ : product-lts.MeasureT-loop
-product-μ text at nodes₀ work₀ k made₀ end₀ nodes work made end = length text - end
-
-abbrev starred-Inv : starred-lts.InvT-loop
-starred-Inv text at nodes₀ work₀ k made₀ end₀ nodes work made end = StarCarried x-forms k text at nodes₀ work₀ (built made₀ end₀) nodes work
-    (built made end)
-
-abbrev starred-μ : starred-lts.MeasureT-loop
-starred-μ text at nodes₀ work₀ k made₀ end₀ nodes work made end = length text - end
-
-abbrev sum-Inv : sum-lts.InvT-loop
-sum-Inv text at nodes₀ work₀ k made₀ end₀ nodes work made end = Carried (Sum x-forms) after-sum plus-joins (joined plus-by (Term x-forms)) k text at nodes₀
-    work₀ (built made₀ end₀) nodes work (built made end)
-
-abbrev sum-μ : sum-lts.MeasureT-loop
-sum-μ text at nodes₀ work₀ k made₀ end₀ nodes work made end = length text - end
-
-abbrev term-Inv : term-lts.InvT-loop
-term-Inv text at nodes₀ work₀ k made₀ end₀ nodes work made end = Carried (Term x-forms) after-term mix-joins (joined mix-by (Product x-forms)) k text at nodes₀
-    work₀ (built made₀ end₀) nodes work (built made end)
-
-abbrev term-μ : term-lts.MeasureT-loop
-term-μ text at nodes₀ work₀ k made₀ end₀ nodes work made end = length text - end
+use Rattle.policy_build.proofs.+atom+product+starred+sum+term.Proof.Claims.{μ-atom, μ-product, μ-starred, μ-sum, μ-term, atom-at, product-at}
+use Rattle.policy_build.proofs.+atom+product+starred+sum+term.Proof.Claims.{starred-at, sum-at, term-at, atom-calls, product-calls, starred-calls}
+use Rattle.policy_build.proofs.+atom+product+starred+sum+term.Proof.Claims.{sum-calls, term-calls, product-Inv, product-μ, starred-Inv, starred-μ}
+use Rattle.policy_build.proofs.+atom+product+starred+sum+term.Proof.Claims.{sum-Inv, sum-μ, term-Inv, term-μ}
 
 -- the needs of `term`
 term-product-requires : (t : ℕ) → term-lts.Need-product-requires (term-calls t) (term-at t) term.Post term-Inv term-μ
