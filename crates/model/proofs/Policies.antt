@@ -99,13 +99,14 @@ one-handle↔ {l = l} {R} {T} {S} a b F A B = (
   one-handle a b F A B,
 )
 
+-- two packets of one field
+pub zero≢one : ¬ (_≡_ {A = List ℕ} (0 ∷ []) (1 ∷ []))
+zero≢one e = let z : _≡_ {A = ℕ} 0 1 = cc in omega arith
+
 -- WRONG READINGS: `!p` as the relation's complement relates different packets, (0) and (1) already for `!0`
 pub not-complement : ¬ ((x : Policy) → Same 1 (meaning 1 (negates x)) (λ p q. ¬ meaning 1 x p q))
 unfolding meaning
-not-complement h = apart (h fail (0 ∷ []) (1 ∷ []) (more 0 (omega arith) none) (more 1 (omega arith) none) .1 (λ r. r) .0)
-  where
-    apart : ¬ (_≡_ {A = List ℕ} (0 ∷ []) (1 ∷ []))
-    apart e = let z : _≡_ {A = ℕ} 0 1 = cc in omega arith
+not-complement h = zero≢one (h fail (0 ∷ []) (1 ∷ []) (more 0 (omega arith) none) (more 1 (omega arith) none) .1 (λ r. r) .0)
 
 -- `0*` as `0`: it relates every packet to itself
 pub star-not-empty : ¬ Same 1 (meaning 1 (stars fail)) (meaning 1 fail)

@@ -4,12 +4,12 @@ use mathlib.Core.List.{List, [], _∷_, _++_, append-assoc, append-nil}
 use mathlib.Core.Bool.{true}
 use Prim.Native.Nat.{ℕ, _+_}
 use lib.ListN.{getD, drop}
-use Rattle.model.specs.Policies.{Mix, Policy, plus, mixes, seq, stars}
+use Rattle.model.specs.Policies.{Policy, plus, mixes, seq, stars}
 use Rattle.policy_text.specs.Lexicon.{Lexicon}
-use Rattle.policy_text.specs.Grammar.{MixSign, m-both, m-minus, m-either, Atom, Starred, Product, Term, Sum, s-atom, s-star, p-one, p-seq, t-one, t-mix}
+use Rattle.policy_text.specs.Grammar.{Atom, Starred, Product, Term, Sum, s-atom, s-star, p-one, p-seq, t-one, t-mix}
 use Rattle.policy_text.specs.Grammar.{u-one, u-plus}
-use Rattle.policy_text.specs.Posts.{mixes?}
-use Rattle.policy_build.specs.Building.{mix-of}
+use Rattle.policy_text.specs.Machine.{mixes?, mix-of}
+use Rattle.policy_text.proofs.MixSigns.{sign-is}
 use Rattle.policy_build.proofs.Suffixes.{first-of, next}
 
 -- how a byte and then u make one policy of another
@@ -88,15 +88,9 @@ pub product-begun : {X : Lexicon} {d : ℕ} {u : List ℕ} {p : Policy} → Prod
 product-begun (p-one x) = single x
 product-begun (p-seq x y) = longer (product-begun x) refl (_, y, refl)
 
-mix-joined : {b : ℕ} {m : Mix} → MixSign b m → (mixes? b ≡ true) × (m ≡ mix-of b)
-unfolding mix-of
-mix-joined m-both = (refl, refl)
-mix-joined m-minus = (refl, refl)
-mix-joined m-either = (refl, refl)
-
 pub term-begun : {X : Lexicon} {d : ℕ} {u : List ℕ} {p : Policy} → Term X d u p → ChainBegun (Product X d) mix-joins (Joining mix-by (Product X d)) u p
 term-begun (t-one x) = single x
-term-begun (t-mix {p = p} {q = q} g x y) = let j = mix-joined g in longer (term-begun x) (j .0) (_, y, ap (λ m. mixes m p q) (j .1))
+term-begun (t-mix {p = p} {q = q} g x y) = let j = sign-is g in longer (term-begun x) (j .0) (_, y, ap (λ m. mixes m p q) (j .1))
 
 pub sum-begun : {X : Lexicon} {d : ℕ} {u : List ℕ} {p : Policy} → Sum X d u p → ChainBegun (Term X d) plus-joins (Joining plus-by (Term X d)) u p
 sum-begun (u-one x) = single x

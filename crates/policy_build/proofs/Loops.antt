@@ -1,12 +1,12 @@
 -- A loop over the steps of a chain builds a starred item, a product, a term or a sum, from what its body's calls do.
 use mathlib.Core.Path.{_≡_, refl, sym, ap, _∙_, subst}
 use mathlib.Core.List.{List, [], _++_, append-assoc, append-nil}
-use mathlib.Core.Bool.{Bool, true, false, _||_}
+use mathlib.Core.Bool.{true, false}
 use Prim.Native.Nat.{ℕ, zero, suc, _+_, _≤_, _<_}
 use native.Mathlib.Omega.{arith}
 use lib.ListN.{length, getD, drop}
 use lib.Dec.{eqb}
-use borrow.Author.Tests.{eq-eqb, eqb-true}
+use borrow.Author.Tests.{eq-eqb}
 use Rattle.model.specs.Store.{rel}
 use Rattle.model.specs.Programs.{Prog, _>>=_}
 use Rattle.model.specs.Operations.{union}
@@ -18,9 +18,11 @@ use Rattle.memory.specs.declared.RunState.{RunState}
 use Rattle.memory.proofs.Steps.{performs-then, performs-by}
 use Rattle.policy_text.specs.Lexicon.{Lexicon}
 use Rattle.policy_text.specs.Grammar.{Atom, Starred, Product, Term, Sum}
-use Rattle.policy_text.specs.Posts.{mixes?, continues-product, continues-term}
+use Rattle.policy_text.specs.Machine.{mixes?, mix-of}
+use Rattle.policy_text.specs.Posts.{continues-product, continues-term}
+use Rattle.policy_text.proofs.MixSigns.{sign-after}
 use Rattle.policy_text.proofs.Moves.{or-false}
-use Rattle.policy_build.specs.Building.{Rank, Builds, BuildsText, mix-of, after-atom, after-starred, after-product, after-term, after-sum}
+use Rattle.policy_build.specs.Building.{Rank, Builds, BuildsText, after-atom, after-starred, after-product, after-term, after-sum}
 use Rattle.policy_build.specs.declared.Built.{Built}
 use Rattle.policy_build.proofs.Chains.{ChainStep, Chain, ChainBegun, Starring, Joining, star-joins, seq-joins, mix-joins, plus-joins}
 use Rattle.policy_build.proofs.Chains.{seq-by, mix-by, plus-by, starred-begun, product-begun, term-begun, sum-begun, chain-next, chain-end, chain-first}
@@ -49,15 +51,6 @@ product-looped = record {
   starts = λ x e. ap (λ b. eqb b 42) e;
   apart = λ x n. not-byte x 59 (or-false (eqb x 42) (eqb x 59) n .1);
 }
-
--- no sign makes a product longer
-sign-after : (x : ℕ) → mixes? x ≡ true → after-product x
-sign-after x e = by (eqb x 42) (eqb x 59) refl refl
-  where
-    by : (p q : Bool) → eqb x 42 ≡ p → eqb x 59 ≡ q → p || q ≡ false
-    by true q f g = absurd (no-true (ap mixes? (eqb-true x 42 f)) e)
-    by false true f g = absurd (no-true (ap mixes? (eqb-true x 59 g)) e)
-    by false false f g = refl
 
 -- no sign is the byte 0, which stands for the end of the text
 pub sign-byte : (x : ℕ) → mixes? x ≡ true → 0 < x

@@ -1,12 +1,11 @@
 -- What the build pass does: a part of the text that follows the grammar is read up to its end, and its policy's program is run.
 use mathlib.Core.Path.{_≡_}
 use mathlib.Core.List.{List, _∷_, _++_}
-use mathlib.Core.Bool.{false, cond}
+use mathlib.Core.Bool.{false}
 use Prim.Native.Nat.{ℕ, _≤_}
-use lib.Dec.{eqb}
 use lib.ListN.{length, getD, drop}
 use Rattle.model.specs.Store.{rel}
-use Rattle.model.specs.Policies.{Mix, both, minus, either, Policy, policy-program}
+use Rattle.model.specs.Policies.{Policy, policy-program}
 use Rattle.memory.specs.Performing.{Performs}
 use Rattle.memory.specs.declared.RunState.{RunState}
 use Rattle.policy_text.specs.Lexicon.{Lexicon}
@@ -21,10 +20,6 @@ built s e = record { made = s; end = e }
 -- a rank of the grammar: which bytes are such a part, and of which policy
 abbrev pub Rank : Type 1
 Rank = ℕ → List ℕ → Policy → Type 0
-
--- what a sign stands for, of `&`, `-` and `^`
-unfoldable pub mix-of : ℕ → Mix
-mix-of b = cond (eqb b 38) both (cond (eqb b 45) minus either)
 
 -- a test or an assignment, after its `x`
 abbrev pub Named : Rank

@@ -6,12 +6,13 @@ use native.Mathlib.Omega.{arith}
 use mathlib.Core.List.{List, [], _∷_, _++_, append-assoc, append-nil}
 use mathlib.Core.Bool.{Bool, true, false}
 use lib.ListN.{length, drop}
-use Rattle.model.specs.Policies.{Mix, Policy}
+use Rattle.model.specs.Policies.{Policy}
 use Rattle.policy_text.specs.Lexicon.{Lexicon, Lawful, Letter}
-use Rattle.policy_text.specs.Grammar.{Bit, b-zero, b-one, MixSign, m-both, m-minus, m-either}
+use Rattle.policy_text.specs.Grammar.{Bit, b-zero, b-one}
 use Rattle.policy_text.specs.Grammar.{Atom, a-zero, a-one, a-full, a-test, a-assign, a-neg, a-paren, s-atom, s-star}
 use Rattle.policy_text.specs.Grammar.{p-one, p-seq, t-one, t-mix, Sum, u-one, u-plus}
 use Rattle.policy_text.specs.Answers.{Names, names-test, names-assign, Negates, negated}
+use Rattle.policy_text.proofs.MixSigns.{sign-other}
 use Rattle.policy_text.proofs.Spellings.{whole-begins, prefix, no-letter}
 
 module _ {X : Lexicon} (laws : Lawful X) where
@@ -80,11 +81,6 @@ module _ {X : Lexicon} (laws : Lawful X) where
   case-join : (b : ℕ) (s t r : List ℕ) → (Letter b → ⊥) → (b ≡ 33 → ⊥) → Every s (b ∷ (t ++ r)) → Every t r → Every (s ++ (b ∷ t)) r
   case-join b s t r h k x y = every-append s (b ∷ t) r x (every-other b t r h k y)
 
-  case-mix : {c : ℕ} {m : Mix} (s t r : List ℕ) → MixSign c m → Every s (c ∷ (t ++ r)) → Every t r → Every (s ++ (c ∷ t)) r
-  case-mix s t r m-both x y = case-join 38 s t r (λ e. omega (arith, e .0)) (λ e. omega arith) x y
-  case-mix s t r m-minus x y = case-join 45 s t r (λ e. omega (arith, e .0)) (λ e. omega arith) x y
-  case-mix s t r m-either x y = case-join 94 s t r (λ e. omega (arith, e .0)) (λ e. omega arith) x y
-
   every : {d : ℕ} {s : List ℕ} {p : Policy} → Sum X d s p → (r : List ℕ) → Every s r
   every a = elim a as (λ d s p x. (r : List ℕ) → Every s r) (λ d s p x. (r : List ℕ) → Every s r)
       (λ d s p x. (r : List ℕ) → Every s r) (λ d s p x. (r : List ℕ) → Every s r) (λ d s p x. (r : List ℕ) → Every s r) [
@@ -101,7 +97,7 @@ module _ {X : Lexicon} (laws : Lawful X) where
         | p-one (x → h) ↦ h
         | p-seq {s = s} {t = t} (x → h) (y → k) ↦ (λ r. case-join 59 s t r (λ e. omega (arith, e .0)) (λ e. omega arith) (h (59 ∷ (t ++ r))) (k r))
         | t-one (x → h) ↦ h
-        | t-mix {c = c} {s = s} {t = t} g (x → h) (y → k) ↦ (λ r. case-mix s t r g (h (c ∷ (t ++ r))) (k r))
+        | t-mix {c = c} {s = s} {t = t} g (x → h) (y → k) ↦ (λ r. case-join c s t r (sign-other g .0) (sign-other g .1) (h (c ∷ (t ++ r))) (k r))
         | u-one (x → h) ↦ h
         | u-plus {s = s} {t = t} (x → h) (y → k) ↦ (λ r. case-join 43 s t r (λ e. omega (arith, e .0)) (λ e. omega arith) (h (43 ∷ (t ++ r))) (k r))
       ]

@@ -10,7 +10,7 @@ use mathlib.Core.Logic.{inl, inr}
 use Rattle.policy_text.specs.Lexicon.{Lexicon, Lawful}
 use Rattle.policy_text.specs.Grammar.{Bit, b-zero, b-one, MixSign, m-both, m-minus, m-either, a-zero, a-one, a-full, a-test, a-assign, a-neg, a-paren}
 use Rattle.policy_text.specs.Grammar.{s-atom, s-star, p-one, p-seq, t-one, t-mix, Sum, u-one, u-plus}
-use Rattle.policy_text.specs.Machine.{Acc, nothing, sofar, Left, opening, joining, sum-before, join-mix, join-term}
+use Rattle.policy_text.specs.Machine.{Acc, nothing, sofar, Left, opening, joining, sum-before, join-mix, join-term, mix-of}
 use Rattle.policy_text.specs.Machine.{Frame, paren, spelt, colon, bit, State, need, inside, post}
 use Rattle.policy_text.specs.Machine.{ByteStep, go, accept, negs, join-seq, join-plus, nesting, leaf, after-name}
 use Rattle.policy_text.specs.Machine.{mid-step, mid-go, close, byte-step, final, onward, scan, start, reads}
@@ -192,7 +192,7 @@ module _ {X : Lexicon} (laws : Lawful X) where
   -- a sign after a term
   step-mix : {c : ℕ} {m : Mix} (L : ℕ) (v : Policy) (sa : Left) (pa : Acc) (σ : List Frame) → MixSign c m
       → byte-step X L (post v sa pa σ) c ≡ go (need (joining (sum-before sa) m (join-mix sa (join-seq pa v))) nothing 0 σ)
-  unfolding byte-step
+  unfolding byte-step mix-of
   step-mix L v sa pa σ m-both = refl
   step-mix L v sa pa σ m-minus = refl
   step-mix L v sa pa σ m-either = refl

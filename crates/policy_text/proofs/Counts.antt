@@ -10,11 +10,12 @@ use lib.Dec.{leb, ltb}
 use borrow.Author.Tests.{ne-eqb, leb-true, leb-false, lt-ltb, le-ltb}
 use Rattle.model.specs.Policies.{Mix, Policy, predicate?, negates-predicates?, fields-below?}
 use Rattle.policy_text.specs.Lexicon.{Lexicon, Lawful, Letter, Bounds}
-use Rattle.policy_text.specs.Grammar.{Bit, b-zero, b-one, MixSign, m-both, m-minus, m-either}
+use Rattle.policy_text.specs.Grammar.{Bit, b-zero, b-one}
 use Rattle.policy_text.specs.Grammar.{Atom, a-zero, a-one, a-full, a-test, a-assign, a-neg, a-paren, s-atom, s-star}
 use Rattle.policy_text.specs.Grammar.{p-one, p-seq, t-one, t-mix, Sum, u-one, u-plus}
 use Rattle.policy_text.specs.Reading.{clean?, offends?}
 use Rattle.policy_text.proofs.Clean.{clean-atom}
+use Rattle.policy_text.proofs.MixSigns.{sign-other}
 use Rattle.policy_text.proofs.Spellings.{word-above, whole-begins, prefix, no-letter}
 
 -- no byte of s, with r after s, passes the test
@@ -120,12 +121,6 @@ module _ {X : Lexicon} (laws : Lawful X) where
         ∙ ap (λ (x : Bool). none P s (b ∷ (t ++ r)) && x) (k r ∙ sym (none-other b t r i j))
         ∙ sym (none-append P s (b ∷ t) r)
 
-    case-mix : {c : ℕ} {m : Mix} (s t : List ℕ) (p q : Policy) → MixSign c m → ((r : List ℕ) → R p ≡ none P s r)
-        → ((r : List ℕ) → R q ≡ none P t r) → (r : List ℕ) → R p && R q ≡ none P (s ++ (c ∷ t)) r
-    case-mix s t p q m-both h k r = case-join s t p q 38 (λ e. omega (arith, e .0)) (λ e. omega arith) h k r
-    case-mix s t p q m-minus h k r = case-join s t p q 45 (λ e. omega (arith, e .0)) (λ e. omega arith) h k r
-    case-mix s t p q m-either h k r = case-join s t p q 94 (λ e. omega (arith, e .0)) (λ e. omega arith) h k r
-
     pub finds : {d : ℕ} {s : List ℕ} {p : Policy} → Sum X d s p → (r : List ℕ) → R p ≡ none P s r
     unfolding none
     finds a = elim a as (λ d s p x. (r : List ℕ) → R p ≡ none P s r) (λ d s p x. (r : List ℕ) → R p ≡ none P s r)
@@ -143,7 +138,8 @@ module _ {X : Lexicon} (laws : Lawful X) where
           | p-one (x → h) ↦ h
           | p-seq {s = s} {t = t} {p = p} {q = q} (x → h) (y → k) ↦ (λ r. F .seq p q ∙ case-join s t p q 59 (λ e. omega (arith, e .0)) (λ e. omega arith) h k r)
           | t-one (x → h) ↦ h
-          | t-mix {s = s} {t = t} {m = m} {p = p} {q = q} g (x → h) (y → k) ↦ (λ r. F .mixes m p q ∙ case-mix s t p q g h k r)
+          | t-mix {c = c} {s = s} {t = t} {m = m} {p = p} {q = q} g (x → h) (y → k) ↦
+              (λ r. F .mixes m p q ∙ case-join s t p q c (sign-other g .0) (sign-other g .1) h k r)
           | u-one (x → h) ↦ h
           | u-plus {s = s} {t = t} {p = p} {q = q} (x → h) (y → k) ↦
               (λ r. F .plus p q ∙ case-join s t p q 43 (λ e. omega (arith, e .0)) (λ e. omega arith) h k r)

@@ -1,5 +1,6 @@
 pub mod Spellings
 pub mod XLaws
+pub mod MixSigns
 pub mod Sound
 pub mod Complete
 pub mod Offsets

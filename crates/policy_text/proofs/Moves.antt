@@ -16,8 +16,8 @@ use denote.Enum.Declared.{tagOf, declared}
 use Rattle.policy_text.proofs.syntax.Read.{enum}
 use Rattle.policy_text.specs.Lexicon.{Lexicon}
 use Rattle.policy_text.specs.Machine.{Acc, nothing, sofar, Left, opening, paren, negs, join-seq, join-term, close, Frame, State, need, post}
-use Rattle.policy_text.specs.Machine.{Out, accept, bad, deep, nesting, scan, reads, byte-step, final, start, onward, go, stop, over, ByteStep}
-use Rattle.policy_text.specs.Posts.{mixes?, continues-starred, continues-product, continues-term, continues-sum}
+use Rattle.policy_text.specs.Machine.{mixes?, Out, accept, bad, deep, nesting, scan, reads, byte-step, final, start, onward, go, stop, over, ByteStep}
+use Rattle.policy_text.specs.Posts.{continues-starred, continues-product, continues-term, continues-sum}
 use Rattle.policy_text.specs.Posts.{scan-at, Open, AtomPost, JoinPost, StarsPost, read-of}
 use Rattle.policy_text.specs.declared.syntax.Read.{Read}
 use Rattle.policy_text.specs.declared.syntax.Read.the-variants.{End, Bad, Deep}
@@ -95,9 +95,7 @@ module _ (X : Lexicon) where
         let p = or-false (continues-term b) (eqb b 43) e in
         let q = or-false (continues-product b) (mixes? b) (p .0) in
         let r = or-false (eqb b 42) (eqb b 59) (q .0) in
-        let s = or-false (eqb b 38 || eqb b 45) (eqb b 94) (q .1) in
-        let t = or-false (eqb b 38) (eqb b 45) (s .0) in
-        simp (r .0, r .1, t .0, t .1, s .1, p .1, ne-eqb _ _ f)
+        simp (r .0, r .1, q .1, p .1, ne-eqb _ _ f)
 
   pub step-after-all : (v : Policy) (sa : Left) (pa : Acc) (b : ℕ) → continues-sum b ≡ false → byte-step X 32 (post v sa pa []) b ≡ stop
   unfolding close

@@ -14,7 +14,7 @@ use Rattle.policy_text.specs.Lexicon.{Whole, unspelt, field, Lexicon, La
 use Rattle.policy_text.specs.Grammar.{Completable, NotPolicy, TooDeep}
 use Rattle.policy_text.specs.Machine.{Acc, nothing, Left, opening, Frame, paren, Mid, spelt, colon, bit, State, need, inside, post, MidStep, more, whole}
 use Rattle.policy_text.specs.Machine.{not-mid, ByteStep, go, stop, over, Out, accept, bad, deep, negs, join-seq, join-term, nesting, leaf}
-use Rattle.policy_text.specs.Machine.{after-name, mid-step, mid-go, close, byte-step, final, onward, scan, start, reads}
+use Rattle.policy_text.specs.Machine.{mixes?, after-name, mid-step, mid-go, close, byte-step, final, onward, scan, start, reads}
 use Rattle.policy_text.proofs.Sound.{sound-at, bad≢accept, deep≢accept}
 use Rattle.policy_text.proofs.Spellings.{whole-begins, not-before}
 use Rattle.policy_text.proofs.Complete.{scan-cons, adv-spelt, complete-at}
@@ -157,9 +157,8 @@ module _ {X : Lexicon} (laws : Lawful X) where
   stays L (inside m sa pa n σ) b h = stays-mid L (mid-step X m b) sa pa n σ (h .0) (mid-stays m b)
   stays L (post v sa pa σ) b h =
       stays-if (Stays L) (eqb b 42) (λ _. h) (stays-if (Stays L) (eqb b 59) (λ _. omega arith)
-      (stays-if (Stays L) (eqb b 38) (λ _. omega arith) (stays-if (Stays L) (eqb b 45) (λ _. omega arith)
-      (stays-if (Stays L) (eqb b 94) (λ _. omega arith) (stays-if (Stays L) (eqb b 43) (λ _. omega arith)
-      (stays-if (Stays L) (eqb b 41) (λ _. stays-close L v sa pa σ h) tt))))))
+      (stays-if (Stays L) (mixes? b) (λ _. omega arith) (stays-if (Stays L) (eqb b 43) (λ _. omega arith)
+      (stays-if (Stays L) (eqb b 41) (λ _. stays-close L v sa pa σ h) tt))))
 
   -- Where a run is refused: the text before that place, the state there, and what follows.
   abbrev halt : Bool → ℕ → Out
@@ -332,9 +331,8 @@ module _ {X : Lexicon} (laws : Lawful X) where
   lifts (inside m sa pa n σ) b h = lifts-mid (mid-step X m b) sa pa n σ
   lifts (post v sa pa σ) b h =
       by-both Lifts (eqb b 42) (never-over _ _) (by-both Lifts (eqb b 59) (never-over _ _)
-      (by-both Lifts (eqb b 38) (never-over _ _) (by-both Lifts (eqb b 45) (never-over _ _)
-      (by-both Lifts (eqb b 94) (never-over _ _) (by-both Lifts (eqb b 43) (never-over _ _)
-      (by-both Lifts (eqb b 41) (lifts-close v sa pa σ) (never-stop _)))))))
+      (by-both Lifts (mixes? b) (never-over _ _) (by-both Lifts (eqb b 43) (never-over _ _)
+      (by-both Lifts (eqb b 41) (lifts-close v sa pa σ) (never-stop _)))))
 
   module _ (t : List ℕ) (i : ℕ) where
     place-in : (k : Bool) (R : Reached 32 k start 0 t i) → length t ≡ i + length (R .back)

@@ -9,12 +9,13 @@ use lib.Dec.{eqb, ltb}
 use borrow.Author.Tests.{eqb-true, ltb-true}
 use Rattle.model.specs.Policies.{Mix, Policy}
 use Rattle.policy_text.specs.Lexicon.{Whole, unspelt, field, Lexicon, Lawful}
-use Rattle.policy_text.specs.Grammar.{Bit, b-zero, b-one, MixSign, m-both, m-minus, m-either, Atom, a-zero, a-one, a-full, a-test, a-assign}
+use Rattle.policy_text.specs.Grammar.{Bit, b-zero, b-one, MixSign, Atom, a-zero, a-one, a-full, a-test, a-assign}
 use Rattle.policy_text.specs.Grammar.{a-neg, a-paren, Starred, s-atom, s-star, Product, p-one, p-seq, Term, t-one, t-mix, Sum, u-one, u-plus}
 use Rattle.policy_text.specs.Machine.{Acc, nothing, sofar, Left, opening, joining, Frame, paren, Mid, spelt, colon, bit, State, need, inside, post}
 use Rattle.policy_text.specs.Machine.{MidStep, more, whole, not-mid, ByteStep, go, stop, over, accept, bad, deep, negs, join-seq, join-plus}
 use Rattle.policy_text.specs.Machine.{sum-before, join-mix, join-term, after-name, mid-step, mid-go, close, byte-step, final, onward, scan, start, reads}
-use Rattle.policy_text.specs.Machine.{nesting, leaf}
+use Rattle.policy_text.specs.Machine.{nesting, leaf, mixes?}
+use Rattle.policy_text.proofs.MixSigns.{sign-of}
 
 pub bad≢accept : {i : ℕ} {p : Policy} → bad i ≡ accept p → ⊥
 bad≢accept e = let z : _≡_ {A = ℕ} 0 1 = cc in omega arith
@@ -275,9 +276,7 @@ module _ {X : Lexicon} (laws : Lawful X) where
         omega arith,
         grow B r w b 59 (eqb-true b 59 h) (i .4) ∙ simp (append-assoc, append-nil),
       ))
-      (λ _. by-cond P (eqb b 38) (λ h. mixes i m-both (eqb-true b 38 h))
-      (λ _. by-cond P (eqb b 45) (λ h. mixes i m-minus (eqb-true b 45 h))
-      (λ _. by-cond P (eqb b 94) (λ h. mixes i m-either (eqb-true b 94 h))
+      (λ _. by-cond P (mixes? b) (λ h. mixes i (sign-of b h))
       (λ _. by-cond P (eqb b 43) (λ h. (
         d,
         record {
@@ -294,22 +293,22 @@ module _ {X : Lexicon} (laws : Lawful X) where
             (append-assoc, append-nil),
       ))
       (λ _. by-cond P (eqb b 41) (λ h. good-close L v sa pa σ r b d (B .s) (B .x) (B .y) w (B .stack) (B .left) (B .seq) (i .3) (eqb-true b 41 h) (i .4))
-      (λ _. tt)))))))
+      (λ _. tt)))))
     where
-      mixes : {c : ℕ} {m : Mix} → Inv L (post v sa pa σ) r → MixSign c m → b ≡ c
+      mixes : {m : Mix} → Inv L (post v sa pa σ) r → MixSign b m
           → Inv L (need (joining (sum-before sa) m (join-mix sa (join-seq pa v))) nothing 0 σ) (r ++ (b ∷ []))
-      mixes {c = c} i s e = let B = i .1 in let w = i .2 in (
+      mixes i s = let B = i .1 in let w = i .2 in (
         i .0,
         record {
           s = B .s;
-          x = (B .x ++ (B .y ++ w)) ++ (c ∷ []);
+          x = (B .x ++ (B .y ++ w)) ++ (b ∷ []);
           y = [];
           stack = B .stack;
           left = left-mix s (B .left) (join-product (B .seq) (i .3));
           seq = seq-none;
         },
         omega arith,
-        grow B r w b c e (i .4) ∙ simp (append-assoc, append-nil),
+        grow B r w b b refl (i .4) ∙ simp (append-assoc, append-nil),
       )
 
   good : (L : ℕ) (q : State) (r : List ℕ) (b : ℕ) → Inv L q r → Good L r b (byte-step X L q b)

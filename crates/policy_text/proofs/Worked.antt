@@ -7,7 +7,7 @@ use lib.ListN.{replicate}
 use Rattle.model.specs.Policies.{Policy}
 use Rattle.policy_text.specs.XForms.{x-begins?, x-whole?, field-number, no-field?, x-forms}
 use Rattle.policy_text.specs.Machine.{scan, final, byte-step, onward, mid-step, mid-go, after-name, close, join-seq, join-plus, join-mix}
-use Rattle.policy_text.specs.Machine.{join-term, sum-before, negs, nesting, leaf, reads}
+use Rattle.policy_text.specs.Machine.{join-term, sum-before, mix-of, negs, nesting, leaf, reads}
 use Rattle.policy_text.specs.Reading.{first, test?, open-after, clean-inside?, clean?, offends?, rules, reading-of, reading}
 use Rattle.policy_text.specs.Answers.{tree-of, tree}
 use Rattle.policy_text.specs.declared.Reading.{Reading}
@@ -62,19 +62,19 @@ worked : map (λ c. reading x-forms (c .0) (c .1)) table ≡ map (λ c. c .2) ta
 unfolding x-begins? x-whole? reading reading-of rules first field-number no-field? test? open-after clean-inside? clean? offends? reads scan final byte-step
     onward
     mid-step mid-go
-    after-name close join-seq join-plus join-mix join-term sum-before negs nesting leaf
+    after-name close join-seq join-plus join-mix join-term sum-before mix-of negs nesting leaf
 worked = refl
 
 -- `!x0=1;(1+0*)**`: joins group from the left, and a star is of what is before it
 grouped : tree x-forms (33 ∷ 120 ∷ 48 ∷ 61 ∷ 49 ∷ 59 ∷ 40 ∷ 49 ∷ 43 ∷ 48 ∷ 42 ∷ 41 ∷ 42 ∷ 42 ∷ [])
     ≡ Policy.seq (Policy.negates (Policy.tests 0 true)) (Policy.stars (Policy.stars (Policy.plus Policy.skip (Policy.stars Policy.fail))))
 unfolding x-begins? x-whole? tree tree-of reads scan final byte-step onward mid-step mid-go after-name close join-seq join-plus join-mix
-    join-term sum-before negs nesting leaf
+    join-term sum-before mix-of negs nesting leaf
 grouped = refl
 
 -- `1+0+1;0;1`
 from-left : tree x-forms (49 ∷ 43 ∷ 48 ∷ 43 ∷ 49 ∷ 59 ∷ 48 ∷ 59 ∷ 49 ∷ [])
     ≡ Policy.plus (Policy.plus Policy.skip Policy.fail) (Policy.seq (Policy.seq Policy.skip Policy.fail) Policy.skip)
 unfolding x-begins? x-whole? tree tree-of reads scan final byte-step onward mid-step mid-go after-name close join-seq join-plus join-mix
-    join-term sum-before negs nesting leaf
+    join-term sum-before mix-of negs nesting leaf
 from-left = refl

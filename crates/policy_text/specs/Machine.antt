@@ -2,7 +2,7 @@
 -- byte that cannot stand there (7) or the first `(` or `!` inside 32 others (9); 01, "What each operation declines, in order".
 use Prim.Native.Nat.{ℕ, zero, suc, _+_}
 use mathlib.Core.List.{List, [], _∷_, _++_}
-use mathlib.Core.Bool.{Bool, true, false, cond}
+use mathlib.Core.Bool.{Bool, true, false, cond, _||_}
 use lib.Dec.{ltb, eqb}
 use Rattle.model.specs.Policies.{Mix, Policy}
 use Rattle.policy_text.specs.Lexicon.{Whole, unspelt, field, Lexicon}
@@ -106,9 +106,12 @@ unfoldable pub close : Policy → Left → Acc → List Frame → ByteStep
 close v sa pa [] = stop
 close v sa pa (paren sb pb n ∷ σ) = go (post (negs n (join-term sa (join-seq pa v))) sb pb σ)
 
--- a sign after a product
-abbrev pub mix-go : Mix → Policy → Left → Acc → List Frame → ByteStep
-mix-go m v sa pa σ = go (need (joining (sum-before sa) m (join-mix sa (join-seq pa v))) nothing 0 σ)
+-- `&`, `-` or `^`; which of them
+abbrev pub mixes? : ℕ → Bool
+mixes? b = (eqb b 38 || eqb b 45) || eqb b 94
+
+unfoldable pub mix-of : ℕ → Mix
+mix-of b = cond (eqb b 38) Mix.both (cond (eqb b 45) Mix.minus Mix.either)
 
 -- what a byte does, where an atom may nest L deep
 unfoldable pub byte-step : Lexicon → ℕ → State → ℕ → ByteStep
@@ -124,12 +127,10 @@ byte-step X L (inside m sa pa n σ) b = mid-go (mid-step X m b) sa pa n σ
 byte-step X L (post v sa pa σ) b =
     cond (eqb b 42) (go (post (Policy.stars v) sa pa σ))
     (cond (eqb b 59) (go (need sa (sofar (join-seq pa v)) 0 σ))
-    (cond (eqb b 38) (mix-go Mix.both v sa pa σ)
-    (cond (eqb b 45) (mix-go Mix.minus v sa pa σ)
-    (cond (eqb b 94) (mix-go Mix.either v sa pa σ)
+    (cond (mixes? b) (go (need (joining (sum-before sa) (mix-of b) (join-mix sa (join-seq pa v))) nothing 0 σ))
     (cond (eqb b 43) (go (need (opening (sofar (join-term sa (join-seq pa v)))) nothing 0 σ))
     (cond (eqb b 41) (close v sa pa σ)
-    stop))))))
+    stop))))
 
 -- where the text ends, at the offset
 unfoldable pub final : State → ℕ → Out

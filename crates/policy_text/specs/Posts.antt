@@ -7,7 +7,7 @@ use lib.ListN.{length, drop, getD}
 use lib.Dec.{eqb}
 use Rattle.model.specs.Policies.{Policy}
 use Rattle.policy_text.specs.Lexicon.{field, Lexicon}
-use Rattle.policy_text.specs.Machine.{Acc, Left, Frame, State, need, inside, spelt, post, Out, accept, bad, deep, nesting, scan}
+use Rattle.policy_text.specs.Machine.{Acc, Left, Frame, State, need, inside, spelt, post, Out, accept, bad, deep, nesting, mixes?, scan}
 use Rattle.policy_text.specs.declared.syntax.Read.{Read}
 use Rattle.policy_text.specs.declared.syntax.Read.the-variants.{End, Bad, Deep}
 
@@ -29,10 +29,6 @@ AtomPost X t d q at (Deep i) = (sa : Left) (pa : Acc) (n : ℕ) (σ : List Frame
 unfoldable pub RelationPost : Lexicon → List ℕ → ℕ → Read → Type 0
 RelationPost X t at r = (s : List ℕ) (n d : ℕ) → X .whole? s ≡ field n → (at < length t → X .begins? (s ++ (getD t at 0 ∷ [])) ≡ false)
     → AtomPost X t d (inside (spelt s)) at r
-
--- `&`, `-` or `^`
-abbrev pub mixes? : ℕ → Bool
-mixes? b = (eqb b 38 || eqb b 45) || eqb b 94
 
 -- the bytes that make a starred item, a product, a term or a sum longer
 abbrev pub continues-starred : ℕ → Bool

@@ -2,7 +2,7 @@
 ghost use mathlib.Core.Path.{_≡_};
 ghost use Prim.Native.Nat.{ℕ};
 ghost use Rattle.policy_text.specs.XForms.{digit?, no-field?, x-forms};
-ghost use Rattle.policy_text.specs.Posts.{mixes?};
+ghost use Rattle.policy_text.specs.Machine.{mixes?};
 ghost use Rattle.policy_text.specs.Reading.{first, offends?, rules, reading};
 
 mod fields;

@@ -35,7 +35,7 @@ use Rattle.new_store.specs.Creating.{places-for}
 use Rattle.new_store.proofs.Creating.{new-range, full-relations, full-sets, fits-new}
 use Rattle.policy_text.specs.XForms.{x-begins?, x-whole?, field-number, no-field?}
 use Rattle.policy_text.specs.Machine.{scan, final, byte-step, onward, mid-step, mid-go, after-name, close, join-seq, join-plus}
-use Rattle.policy_text.specs.Machine.{join-mix, join-term, sum-before, negs, nesting, leaf, reads}
+use Rattle.policy_text.specs.Machine.{join-mix, join-term, sum-before, mix-of, negs, nesting, leaf, reads}
 use Rattle.policy_text.specs.Reading.{first, test?, open-after, clean-inside?, clean?, offends?, rules, reading-of, reading}
 use Rattle.policy_text.specs.Answers.{tree-of, tree}
 use Rattle.policies.specs.Outcome.{of-reading, text-verdict}
@@ -82,14 +82,14 @@ unfolding in-turn plain-any-step effect plain-step plain-policy-step asked on-li
     guard also of-one of-pair of-four level-of
     run get mk-store mk-handle place having agrees constant identity-at-depth union each-field test is-zero new op2 node2
     x-begins? x-whole? reading reading-of rules first field-number no-field? test? open-after clean-inside? clean? offends? reads scan final byte-step onward
-    mid-step mid-go after-name close join-seq join-plus join-mix join-term sum-before negs nesting leaf tree-of tree
+    mid-step mid-go after-name close join-seq join-plus join-mix join-term sum-before mix-of negs nesting leaf tree-of tree
 texts-plain = (refl, refl, refl, refl)
 
 mixes-plain : Plainly 1 1 4 (without-new mixed-texts)
 unfolding in-turn plain-any-step effect plain-policy-step on-lists finishes text-verdict of-reading policy-program mix-program
     run get mk-store mk-handle place having agrees constant identity-at-depth complement union intersect xor difference sequence new op1 node1 op2 node2
     x-begins? x-whole? reading reading-of rules first field-number no-field? test? open-after clean-inside? clean? offends? reads scan final byte-step onward
-    mid-step mid-go after-name close join-seq join-plus join-mix join-term sum-before negs nesting leaf tree-of tree
+    mid-step mid-go after-name close join-seq join-plus join-mix join-term sum-before mix-of negs nesting leaf tree-of tree
 mixes-plain = refl
 
 -- the handle of `new`: the full relation's

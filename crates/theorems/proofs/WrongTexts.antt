@@ -14,6 +14,7 @@ use Rattle.model.specs.Policies.{predicate?, negates-predicates?, policy-progra
 use Rattle.model.specs.Programs.{run}
 use Rattle.model.specs.Store.{set, rel, arity, get, place, having, mk-store, mk-handle}
 use Rattle.model.specs.Meaning.{Same}
+use Rattle.model.proofs.Policies.{zero≢one}
 use Rattle.store_check.specs.Memory.{Memories, memories, head}
 use Rattle.store.specs.Calls.{new-store, step}
 use Rattle.theorems.specs.Lists.{in-turn}
@@ -153,9 +154,6 @@ zero-packet = more 0 (omega arith) none
 one-packet : Packet 1 (1 ∷ [])
 one-packet = more 1 (omega arith) none
 
-apart : ¬ (_≡_ {A = List ℕ} (0 ∷ []) (1 ∷ []))
-apart e = let z : _≡_ {A = ℕ} 0 1 = cc in omega arith
-
 -- so the first product of `0+1` is not the text
 abbrev sum-text : List ℕ
 sum-text = zero-text ++ (43 ∷ one-text)
@@ -173,7 +171,7 @@ full-text = 84 ∷ []
 pub full-is-another : (H : History) → H .width ≡ 1 → (g h : ℕ) → AcceptedIn (H .calls) full-text g → AcceptedIn (H .calls) one-text h → ¬ (g ≡ h)
 unfolding meaning
 full-is-another = differ full-text one-text full skip (0 ∷ []) (1 ∷ []) (u-one (t-one (p-one (s-atom a-full)))) (u-one (t-one (p-one (s-atom a-one))))
-    zero-packet one-packet tt apart
+    zero-packet one-packet tt zero≢one
 
 -- `-` is not from the right: `1-(1-1)` is not `1-1-1`
 abbrev minus-right : List ℕ
@@ -203,7 +201,7 @@ above-is-another = differ both-above both-below (seq full (mixes both skip skip)
     (u-one (t-one (p-seq (p-one (s-atom a-full))
     (s-atom (a-paren {e = 0} (omega arith) (u-one (t-mix m-both (t-one (p-one (s-atom a-one))) (p-one (s-atom a-one)))))))))
     (u-one (t-mix m-both (t-one (p-seq (p-one (s-atom a-full)) (s-atom a-one))) (p-one (s-atom a-one))))
-    zero-packet one-packet (1 ∷ [], one-packet, tt, (refl, refl)) (λ n. apart (n .1))
+    zero-packet one-packet (1 ∷ [], one-packet, tt, (refl, refl)) (λ n. zero≢one (n .1))
 
 -- `!p` is not `T-p`: `T-0` is not `!0`
 abbrev full-minus : List ℕ
@@ -217,7 +215,7 @@ unfolding meaning
 negation-is-another = differ full-minus negated-zero (mixes minus full fail) (negates fail) (0 ∷ []) (1 ∷ [])
     (u-one (t-mix m-minus (t-one (p-one (s-atom a-full))) (p-one (s-atom a-zero))))
     (u-one (t-one (p-one (s-atom (a-neg {e = 0} (omega arith) a-zero)))))
-    zero-packet one-packet (tt, λ n. n) (λ n. apart (n .0))
+    zero-packet one-packet (tt, λ n. n) (λ n. zero≢one (n .0))
 
 -- `T` UNDER `!`: `!(x0=0&T)` does not keep the rules, though what it negates relates packets to themselves only
 pub full-under-negation : (k : ℕ) → ¬ WithinRules k (33 ∷ 40 ∷ 120 ∷ 48 ∷ 61 ∷ 48 ∷ 38 ∷ 84 ∷ 41 ∷ [])

@@ -6,7 +6,7 @@ use native.Mathlib.Omega.{arith}
 use borrow.Author.Needs.{needs}
 use Rattle.model.proofs.Bools.{no-true}
 use Rattle.memory.proofs.Steps.{performs-by}
-use Rattle.policy_text.specs.Posts.{mixes?}
+use Rattle.policy_text.specs.Machine.{mixes?}
 use Rattle.policy_text.proofs.Moves.{not-true, not-false}
 use Rattle.policy_build.specs.Building.{after-term}
 use Rattle.policy_build.proofs.Atoms.{negation-builds, paren-builds}

@@ -7,7 +7,7 @@ use Rattle.model.specs.Store.{rel}
 use Rattle.model.specs.Operations.{intersect, xor, difference}
 use Rattle.model.specs.Policies.{mix-program}
 use Rattle.memory.proofs.Steps.{performs-by}
-use Rattle.policy_build.specs.Building.{mix-of}
+use Rattle.policy_text.specs.Machine.{mix-of}
 use Rattle.policy_build.proofs.mixed.Statement.{statement}
 use Rattle.policy_build.proofs.mixed.Tie as tie
 
