@@ -125,7 +125,7 @@ static int relates(BDD relation, uint32_t input, uint32_t output) {
     while (relation != bddtrue && relation != bddfalse) {
         int field = bdd_var(relation) / GROUPS;
         uint32_t packet = bdd_var(relation) % GROUPS == INPUT ? input : output;
-        relation = packet >> (FIELDS - 1 - field) & 1 ? bdd_high(relation) : bdd_low(relation);
+        relation = packet >> field & 1 ? bdd_high(relation) : bdd_low(relation);
     }
     return relation == bddtrue;
 }

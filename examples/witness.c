@@ -46,7 +46,7 @@ static void print_header(uint32_t header, uint32_t k) {
         putchar('-');
     }
     for (uint32_t field = 0; field < k; field++) {
-        putchar(header >> (k - 1 - field) & 1 ? '1' : '0');
+        putchar(header >> field & 1 ? '1' : '0');
     }
 }
 

@@ -1,8 +1,8 @@
 /*
  * A packet store: sets of packets and relations on packets, in memory that the caller lends.
  *
- * A packet of k fields is a number below 2^k; field 0 is its most significant bit, and k is at most 32.
- * A handle names a set or a relation of a level, from 0 to k: it concerns packets of as many fields.
+ * A packet of k fields is a number below 2^k whose bit f is field f: field 0 is its least significant bit. k is at most 32.
+ * A handle names a set or a relation of a level, from 0 to k: it concerns packets of as many fields, numbers below 2^level.
  * In one store, from one packet_store_new, two sets of one level have the same packets exactly when their handles are
  * equal, and two relations of one level relate the same pairs exactly when theirs are. Handles of two stores say nothing
  * of each other.
@@ -205,9 +205,10 @@ typedef struct packet_store_cursor {
 
 /*
  * The next packet of the cursor's set: the first that comes after last, or the first of all where none was given. Packets
- * are in field order, compared field by field from field 0 on, 0 before 1; last need not be in the set. Called again and
- * again on a cursor of a handle and three zeros it gives each packet of the set exactly once and then the end; calls other
- * than packet_store_new between two of these alter nothing of it. Each call checks both memories, as every function does.
+ * are in field order, compared field by field from field 0 on, 0 before 1, and not by number: of two fields 0, 2, 1, 3. last
+ * need not be in the set. Called again and again on a cursor of a handle and three zeros it gives each packet of the set
+ * exactly once and then the end; calls other than packet_store_new between two of these alter nothing of it. Each call
+ * checks both memories, as every function does.
  *
  * Returns 1 where there is a packet, which is then in last, with 1 in given; 0 for the end, with 1 in ended if that was 0.
  * All else in the cursor stays: the end met alters neither last nor given, and with the end met nothing changes any more.
@@ -368,9 +369,9 @@ typedef struct packet_store_pair {
 
 /*
  * The first pair that a relates from a packet of p to a packet of q: the first input that has such an output, inputs being
- * compared field by field from field 0 on, 0 before 1, and of its outputs in q the first in the same order. That is the
- * least input, and beside it the least output, by their numbers. None exactly where packet_store_relation_has_path answers
- * 0; at level 0 a pair is (0, 0). Refuses: 1; 2 if p, a or q is not held; 3 if their levels differ.
+ * compared field by field from field 0 on, 0 before 1, and of its outputs in q the first in the same order. That order is
+ * not by number: of two fields it is 0, 2, 1, 3. None exactly where packet_store_relation_has_path answers 0; at level 0 a
+ * pair is (0, 0). Refuses: 1; 2 if p, a or q is not held; 3 if their levels differ.
  * Working memory: on relay tables of some thousand nodes PACKET_STORE_WORK_LEN numbers suffice, and it takes 1.1 to 1.3 times
  * what packet_store_relation_has_path does; on relations made to be slow it needs up to four times that call's numbers.
  */

@@ -114,7 +114,8 @@ fn write(policy: &Policy, x: u32, y: u32, text: &mut String) {
 /// Pairs to ask of a policy: some that it relates, the same with one field of the output changed, and any.
 fn pairs(policy: &Policy, random: &mut Random) -> Vec<[u32; 2]> {
     let (mut store, handle) = run_rust(FIELDS, policy);
-    let number = |packet: Vec<bool>| packet.iter().fold(0, |all, &bit| all * 2 + u32::from(bit));
+    let number =
+        |packet: Vec<bool>| packet.iter().rev().fold(0, |all, &bit| all * 2 + u32::from(bit));
     let related = (0..PAIRS).filter_map(|_| store.random_packet_pair(SPP(handle)));
     let related: Vec<[u32; 2]> =
         related.map(|(input, output)| [number(input), number(output)]).collect();

@@ -7,6 +7,7 @@ use crate::rows::WORKS;
 use crate::sides::{timed, Lent, MOST_PLACES};
 use crate::slow::{in_time, least, LIMIT};
 use crate::slow_calls::root;
+use oracle::packet::field_is_one;
 use packet_store as library;
 
 const FIELDS: u32 = 32;
@@ -59,7 +60,7 @@ pub fn once(case: &str, call: &str, work: usize) {
             let (pair, time) =
                 timed(|| library::relation_first_path(relations, sets, work, p, a, p));
             let (input, _) = pair.expect("held").expect("there is a pair");
-            assert_eq!(input >> (FIELDS - 1), 1);
+            assert!(field_is_one(input, 0));
             time
         }
         _ => panic!("{call} is no call"),

@@ -1,9 +1,10 @@
 //! A store of k = 32 on which single calls meet more pairs of nodes than a small memo holds.
 //!
-//! A packet is a number in base 2, field 0 first, and a pair of packets one in base 4, whose digits are the input's field times 2 and the output's added.
-//! The relation a has the pairs that 61 divides, b those that 59 divides, and the set p the packets that 17 divides. A node stands for the remainder that
-//! the fields before it leave, so all levels but the lowest have 61, 59 and 17 nodes of them, and a call that goes down two of them together meets all
-//! pairs at most levels. The last field is 0 in a's and p's packets and 1 in b's, so every result is empty; but nothing shows it before the last field.
+//! Here the fields of a packet, field 0 first, are the digits of a number in base 2, and those of a pair the digits of one in base 4, each the input's field
+//! times 2 and the output's added. The relation a has the pairs that 61 divides, b those that 59 divides, and the set p the packets that 17 divides. A node
+//! stands for the remainder that the fields before it leave, so all levels but the lowest have 61, 59 and 17 nodes of them, and a call that goes down two of
+//! them together meets all pairs at most levels. The last field is 0 in a's and p's packets and 1 in b's, so every result is empty; but nothing shows it
+//! before the last field.
 
 use crate::call::Call;
 use crate::sides::{Lent, MOST_PLACES};

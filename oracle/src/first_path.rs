@@ -22,7 +22,7 @@ pub fn copy(store: &SPPstore) -> SPPstore {
 }
 
 /// The first packet of a set that will do, as a number and as a set. Some packet does: `any` says of a set whether one of
-/// its packets does. Field 0 is the number's highest bit.
+/// its packets does. Field 0 is the number's least significant bit.
 pub fn first(store: &mut SPPstore, set: SP, any: impl Fn(&mut SPPstore, SP) -> bool) -> (u32, SP) {
     let level = store.sp.level(set);
     let (mut packet, mut left) = (0, set);
@@ -31,7 +31,7 @@ pub fn first(store: &mut SPPstore, set: SP, any: impl Fn(&mut SPPstore, SP) -> b
         let low = store.sp.intersect(left, zero);
         let one = !any(store, low);
         left = if one { store.sp.difference(left, zero) } else { low };
-        packet = 2 * packet + u32::from(one);
+        packet |= u32::from(one) << field;
     }
     (packet, left)
 }

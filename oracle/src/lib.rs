@@ -7,6 +7,7 @@ pub mod draw;
 mod first_path;
 pub mod next_member;
 pub mod operations;
+pub mod packet;
 pub mod policy;
 pub mod random;
 pub mod replay;

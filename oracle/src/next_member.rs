@@ -3,6 +3,7 @@
 
 use crate::answer::Answer;
 use crate::first_path::{copy, first};
+use crate::packet::field_is_one;
 use reference::sp::SP;
 use reference::spp::SPPstore;
 
@@ -23,11 +24,11 @@ pub fn next_member(store: &SPPstore, set: SP, last: Option<u32>) -> Option<u32> 
     Some(first(&mut copy, left, |copy, part| !copy.sp.is_zero(part)).0)
 }
 
-/// The packets of a level that come after this one in field order, made from the last field up. Field 0 is the packet's highest bit.
+/// The packets of a level that come after this one in field order, made from the last field up.
 fn after(store: &mut SPPstore, level: u32, packet: u32) -> SP {
     let (mut set, mut empty, mut full) = (SP(0), SP(0), SP(1));
-    for bit in 0..level {
-        let one = packet >> bit & 1 == 1;
+    for field in (0..level).rev() {
+        let one = field_is_one(packet, field);
         set = if one { store.sp.mk(empty, set) } else { store.sp.mk(set, full) };
         empty = store.sp.mk(empty, empty);
         full = store.sp.mk(full, full);

@@ -4,6 +4,7 @@
 use crate::answer::Answer;
 use crate::first_path::first_path;
 use crate::next_member::next_member;
+use crate::packet::field_is_one;
 use reference::sp::SP;
 use reference::spp::{SPPstore, SPP};
 
@@ -128,16 +129,16 @@ fn relation(handle: SPP) -> Answer {
     Answer::Handle(handle.0)
 }
 
-/// Walks down from a relation, at each node by the pair's next field, the highest bit first.
+/// Walks down from a relation, at each node by the pair's next field, from field 0 on.
 fn relates(store: &SPPstore, relation: SPP, input: u32, output: u32) -> bool {
     let mut at = relation;
-    for bit in (0..store.level(relation)).rev() {
+    for field in 0..store.level(relation) {
         let node = store.get(at);
-        at = match (input >> bit & 1, output >> bit & 1) {
-            (0, 0) => node.x00,
-            (0, _) => node.x01,
-            (_, 0) => node.x10,
-            _ => node.x11,
+        at = match (field_is_one(input, field), field_is_one(output, field)) {
+            (false, false) => node.x00,
+            (false, true) => node.x01,
+            (true, false) => node.x10,
+            (true, true) => node.x11,
         };
     }
     at == SPP(1)

@@ -92,12 +92,12 @@ fn a_pair_is_given_or_none() {
                 first_path 7 5 5\nfirst_path 6 7 5\nfirst_path 0 1 1\nfirst_path 1 1 1\nfirst_path 99 1 5\n\
                 first_path 5 1 5\n";
     let answers =
-        "o 6 2\nh 8 7 2\nh 7 7 3\nr 3 7 3\nn 7 3\np 0 0 7 3\np 0 0 7 3\np 2 0 7 3\nn 7 3\n\
+        "o 6 2\nh 8 7 2\nh 7 7 3\nr 3 7 3\nn 7 3\np 0 0 7 3\np 0 0 7 3\np 1 0 7 3\nn 7 3\n\
                    p 0 0 7 3\nr 2 7 3\nr 3 7 3\n";
     assert_eq!(replayed(list), answers);
 }
 
-/// Document 02's order takes the whole input first: 00 to 10 comes before 01 to 00.
+/// Document 02's order takes the whole input first: 00 to 10 comes before 01 to 00, field 0 first.
 #[test]
 fn the_whole_input_comes_before_the_output() {
     let list =
@@ -105,20 +105,20 @@ fn the_whole_input_comes_before_the_output() {
                 first_path 5 21 7\nfirst_path 4 21 5\n";
     let answers: Vec<String> = replayed(list).lines().map(String::from).collect();
     assert!(answers[1].starts_with("h 21 ") && answers[2].starts_with("h 7 "));
-    assert!(answers[3].starts_with("p 0 2 "), "{}", answers[3]);
-    assert!(answers[4].starts_with("p 1 0 "), "{}", answers[4]);
+    assert!(answers[3].starts_with("p 0 1 "), "{}", answers[3]);
+    assert!(answers[4].starts_with("p 2 0 "), "{}", answers[4]);
     assert!(answers[5].starts_with("n "), "{}", answers[5]);
 }
 
-/// Set 9 of level 2 has the packets 00, 10 and 11, set 8 the packet 01, set 4 none.
+/// Set 9 of level 2 has the packets 0, 1 and 3, set 8 the packet 2, set 4 none; packet 2 comes before 1.
 #[test]
 fn a_packet_of_a_set_is_given_or_the_end() {
-    let list = "new 2 99 99\nset.mk 0 1\nset.mk 7 3\nset.next 9 0 0 0\nset.next 9 0 1 0\nset.next 9 1 7 0\n\
-                set.next 9 2 1 0\nset.next 9 3 1 0\nset.next 9 0 1 5\nset.next 8 0 1 0\nset.next 8 1 1 0\n\
+    let list = "new 2 99 99\nset.mk 0 1\nset.mk 7 3\nset.next 9 0 0 0\nset.next 9 0 1 0\nset.next 9 2 7 0\n\
+                set.next 9 1 1 0\nset.next 9 3 1 0\nset.next 9 0 1 5\nset.next 8 0 1 0\nset.next 8 2 1 0\n\
                 set.next 4 77 0 0\nset.next 5 4 1 1\nset.next 5 4 0 1\nset.next 10 4 1 1\nset.next 1 9 0 0\n\
                 set.next 1 0 1 0\nset.next 0 0 0 0\nset.next 1 1 1 0\n";
-    let answers = "o 6 2\nh 6 6 3\nh 9 6 4\nm 0 6 4\nm 2 6 4\nm 2 6 4\n\
-                   m 3 6 4\nn 6 4\nn 6 4\nm 1 6 4\nn 6 4\n\
+    let answers = "o 6 2\nh 6 6 3\nh 9 6 4\nm 0 6 4\nm 1 6 4\nm 1 6 4\n\
+                   m 3 6 4\nn 6 4\nn 6 4\nm 2 6 4\nn 6 4\n\
                    n 6 4\nr 5 6 4\nn 6 4\nr 2 6 4\nm 0 6 4\n\
                    n 6 4\nn 6 4\nr 5 6 4\n";
     assert_eq!(replayed(list), answers);

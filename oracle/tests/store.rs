@@ -63,7 +63,7 @@ fn refusals_come_in_document_01s_order() {
             ("set.next 6 9 1 1", "r 2"),
             ("set.next 5 4 1 1", "r 5"),
             ("set.next 5 4 0 1", "n"),
-            ("set.next 5 2 1 0", "m 3"),
+            ("set.next 5 2 1 0", "m 1"),
         ],
     );
     assert_eq!(store.counts(), (6, 2));
@@ -79,9 +79,10 @@ fn a_packet_of_32_fields_is_never_out_of_range() {
             (&format!("relates {one} 4294967295 4294967295"), "b 1"),
             (&format!("relates {one} 4294967295 2147483647"), "b 0"),
             ("set.one", "h 65"),
-            ("set.next 65 4294967294 1 0", "m 4294967295"),
+            ("set.next 65 2147483647 1 0", "m 4294967295"),
             ("set.next 65 4294967295 1 0", "n"),
-            ("set.next 65 2147483647 1 0", "m 2147483648"),
+            ("set.next 65 4294967294 1 0", "m 1"),
+            ("set.next 65 0 1 0", "m 2147483648"),
         ],
     );
 }
@@ -122,7 +123,7 @@ fn a_store_may_begin_with_any_nodes() {
             ("ifelse 0 7 6", "h 8"),
             ("rel.test 1 1", "h 9"),
             ("assign 0 1", "h 10"),
-            ("relates 10 1 3", "b 1"),
+            ("relates 10 2 3", "b 1"),
         ],
     );
 }

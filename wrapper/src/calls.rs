@@ -180,7 +180,8 @@ calls! {
     /// Refuses with `NotStore`; `NotHeld`.
     relation_is_zero(relations: &[u32], sets: &[u32], a) -> bool;
 
-    /// Whether `a` relates this input to this output.
+    /// Whether `a` relates this input to this output. A packet is a number whose bit f is field f of `a`: field 0 is its least
+    /// significant bit.
     ///
     /// Refuses with `NotStore`; `NotHeld`; `OutOfRange` if a packet is 2^level or more.
     relation_relates(relations: &[u32], sets: &[u32], a, input, output) -> bool;
@@ -239,9 +240,9 @@ calls! {
 
     /// The first pair that the relation `a` relates from a packet of the set `p` to a packet of the set `q`: input and output.
     ///
-    /// It is the first input that has such an output, inputs being compared field by field from field 0 on, 0 before 1; and of its
-    /// outputs in `q` the first in the same order. Packets are numbers as in [`relation_relates`]. There is none exactly where
-    /// [`relation_has_path`] gives `false`; at level 0 a pair is `(0, 0)`.
+    /// It is the first input that has such an output, inputs being compared field by field from field 0 on, 0 before 1, and not by
+    /// number (with two fields 0, 2, 1, 3); and of its outputs in `q` the first in the same order. Packets are numbers as in
+    /// [`relation_relates`]. There is none exactly where [`relation_has_path`] gives `false`; at level 0 a pair is `(0, 0)`.
     ///
     /// Refuses as [`relation_has_image`].
     ///
@@ -250,12 +251,12 @@ calls! {
     /// let (relations, sets) = (&mut [0; relations_len(64)], &mut [0; sets_len(16)]);
     /// let work = &mut vec![0; WORK_LEN];
     /// new(relations, sets, work, 2)?;
-    /// // Packets 00 are sent to 10, packets 01 to 00.
+    /// // Packets with 0 in both fields get 1 in field 0, those with 1 in field 1 alone get 0 there.
     /// let a = policy(relations, sets, work, b"x0=0;x1=0;x0:=1+x0=0;x1=1;x1:=0")?.handle;
     /// let all = set_one(relations, sets, work)?.handle;
-    /// assert_eq!(relation_first_path(relations, sets, work, all, a, all)?, Some((0b00, 0b10)));
+    /// assert_eq!(relation_first_path(relations, sets, work, all, a, all)?, Some((0b00, 0b01)));
     /// let low = set_test(relations, sets, work, 0, 0)?.handle;
-    /// assert_eq!(relation_first_path(relations, sets, work, all, a, low)?, Some((0b01, 0b00)));
+    /// assert_eq!(relation_first_path(relations, sets, work, all, a, low)?, Some((0b10, 0b00)));
     /// let high = set_test(relations, sets, work, 0, 1)?.handle;
     /// assert_eq!(relation_first_path(relations, sets, work, high, a, all)?, None);
     /// # Ok::<(), packet_store::PolicyRefusal>(())

@@ -40,10 +40,11 @@ impl Cursor {
 
 /// The next packet of the cursor's set, or none at the end: the first that comes after `last`, or the first of all where none was given.
 ///
-/// Packets are in field order, compared field by field from field 0 on, 0 before 1; `last` need not be in the set. From [`Cursor::new`]
-/// on each packet of the set is given exactly once, then the end; calls other than [`new`](crate::new) between two of these alter
-/// nothing of it. Where there is a packet, it is then the cursor's `last` and `given` is 1; at the end `ended` is 1 if it was 0. All
-/// else in the cursor stays, and with the end met nothing changes any more.
+/// Packets are numbers as in [`relation_relates`](crate::relation_relates), and come in field order, compared field by field from field
+/// 0 on, 0 before 1, and not by number: with two fields 0, 2, 1, 3. `last` need not be in the set. From [`Cursor::new`] on each packet
+/// of the set is given exactly once, then the end; calls other than [`new`](crate::new) between two of these alter nothing of it. Where
+/// there is a packet, it is then the cursor's `last` and `given` is 1; at the end `ended` is 1 if it was 0. All else in the cursor
+/// stays, and with the end met nothing changes any more.
 ///
 /// Refuses with `NotStore`; `NotHeld`; `OutOfRange` if a packet was given and `last` is 2^level or more. All three are found before the
 /// end, also where it was met. A refusal leaves the cursor as it is.
@@ -53,13 +54,14 @@ impl Cursor {
 /// let (relations, sets) = (&mut [0; relations_len(6)], &mut [0; sets_len(4)]);
 /// let work = &mut vec![0; WORK_LEN];
 /// new(relations, sets, work, 2)?;
+/// // Field 0 is the least significant bit.
 /// let mut cursor = Cursor::new(set_test(relations, sets, work, 0, 1)?.handle);
-/// assert_eq!(set_next(relations, sets, work, &mut cursor)?, Some(0b10));
+/// assert_eq!(set_next(relations, sets, work, &mut cursor)?, Some(0b01));
 /// assert_eq!(set_next(relations, sets, work, &mut cursor)?, Some(0b11));
 /// assert_eq!(set_next(relations, sets, work, &mut cursor)?, None);
 /// // It may go on from any packet.
-/// cursor = Cursor { last: 0b01, given: 1, ..Cursor::new(cursor.handle) };
-/// assert_eq!(set_next(relations, sets, work, &mut cursor)?, Some(0b10));
+/// cursor = Cursor { last: 0b10, given: 1, ..Cursor::new(cursor.handle) };
+/// assert_eq!(set_next(relations, sets, work, &mut cursor)?, Some(0b01));
 /// # Ok::<(), packet_store::Refusal>(())
 /// ```
 pub fn set_next(
@@ -83,7 +85,7 @@ pub fn set_next(
 /// new(relations, sets, &mut [], 2)?;
 /// // The full set of level 2.
 /// let packets: Result<Vec<u32>, Refusal> = members(relations, sets, &mut [], 5).collect();
-/// assert_eq!(packets?, [0b00, 0b01, 0b10, 0b11]);
+/// assert_eq!(packets?, [0b00, 0b10, 0b01, 0b11]);
 /// # Ok::<(), Refusal>(())
 /// ```
 pub fn members<'a>(

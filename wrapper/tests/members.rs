@@ -3,7 +3,7 @@
 
 mod bench;
 
-use bench::{Bench, DAMAGES};
+use bench::{fields, Bench, DAMAGES};
 use packet_store::*;
 use Refusal::{NotHeld, NotStore, OutOfRange};
 
@@ -47,7 +47,7 @@ fn every_packet_comes_once_and_then_the_end() {
     let mut bench = Bench::new(2, 6, 2);
     let mut at = Cursor::new(5);
     assert_eq!(at, cursor(5, 0, 0, 0));
-    for packet in 0..4 {
+    for packet in [0, 2, 1, 3] {
         assert_eq!(next(&mut bench, &mut at), Ok(Some(packet)));
         assert_eq!(at, cursor(5, packet, 1, 0));
     }
@@ -58,7 +58,7 @@ fn every_packet_comes_once_and_then_the_end() {
     // No working memory is needed.
     bench.work.clear();
     let mut at = cursor(5, 2, 1, 0);
-    assert_eq!(bench.read(|r, s, w| set_next(r, s, w, &mut at)), Ok(Some(3)));
+    assert_eq!(bench.read(|r, s, w| set_next(r, s, w, &mut at)), Ok(Some(1)));
 }
 
 #[test]
@@ -84,7 +84,7 @@ fn the_end_sets_its_mark_alone() {
 fn any_mark_but_0_is_yes() {
     let mut bench = Bench::new(2, 6, 2);
     for mark in [1, 2, 7, 1 << 31, u32::MAX] {
-        assert_eq!(step(&mut bench, cursor(5, 1, mark, 0)), (Ok(Some(2)), cursor(5, 2, 1, 0)));
+        assert_eq!(step(&mut bench, cursor(5, 2, mark, 0)), (Ok(Some(1)), cursor(5, 1, 1, 0)));
         assert_eq!(step(&mut bench, cursor(5, 1, 0, mark)), (Ok(None), cursor(5, 1, 0, mark)));
     }
     // With none given the last packet is not looked at.
@@ -152,20 +152,23 @@ fn level_0_has_one_packet() {
 fn the_first_member_after_any_packet() {
     let mut bench = Bench::new(2, 6, 64);
     let mut mk = |x0, x1| bench.add_set(|r, s, w| set_mk(r, s, w, x0, x1)).unwrap();
-    // Every set of two fields, with its packets in field order: by number, since field 0 is the highest bit.
+    // Every set of two fields, with its packets in field order.
     let halves = [0b00, 0b01, 0b10, 0b11].map(|bits| (bits, mk(bits >> 1, bits & 1)));
     let sets: Vec<(u32, Vec<u32>)> = halves
         .iter()
         .flat_map(|&(low, x0)| halves.map(|(high, x1)| (low << 2 | high, x0, x1)))
         .map(|(bits, x0, x1)| {
-            (mk(x0, x1), (0..4).filter(|packet| bits << packet & 8 != 0).collect())
+            let packets = [0, 2, 1, 3].into_iter().enumerate();
+            let members = packets.filter(|(place, _)| bits << place & 8 != 0);
+            (mk(x0, x1), members.map(|(_, packet)| packet).collect())
         })
         .collect();
     assert_eq!(sets.iter().map(|(_, packets)| packets.len()).sum::<usize>(), 32);
     for (handle, packets) in sets {
         assert_eq!(rest(&mut bench, Cursor::new(handle)), packets);
         for last in 0..4 {
-            let after: Vec<u32> = packets.iter().copied().filter(|&p| p > last).collect();
+            let comes_after = |&p: &u32| fields(2, p) > fields(2, last);
+            let after: Vec<u32> = packets.iter().copied().filter(comes_after).collect();
             assert_eq!(rest(&mut bench, cursor(handle, last, 1, 0)), after, "{handle} {last}");
         }
     }
@@ -174,7 +177,7 @@ fn the_first_member_after_any_packet() {
 #[test]
 fn packets_of_32_fields_are_whole() {
     let mut bench = Bench::new(32, 96, 1024);
-    let packets = [0, 1, 0x7fff_ffff, 0x8000_0000, 0x8000_0100, 0xffff_fffd, u32::MAX];
+    let packets = [0, 0x8000_0000, 0xffff_fffe, 1, 0x0080_0001, 0xbfff_ffff, u32::MAX];
     let mut set = bench.add_set(set_zero).unwrap();
     for packet in packets {
         let only = only(&mut bench, packet);
@@ -182,28 +185,29 @@ fn packets_of_32_fields_are_whole() {
     }
     assert_eq!(rest(&mut bench, Cursor::new(set)), packets);
     // No packet is out of range.
-    assert_eq!(rest(&mut bench, cursor(set, 2, 1, 0)), packets[2..]);
-    assert_eq!(rest(&mut bench, cursor(set, u32::MAX - 1, 1, 0)), [u32::MAX]);
+    assert_eq!(rest(&mut bench, cursor(set, 0x4000_0000, 1, 0)), packets[2..]);
+    assert_eq!(rest(&mut bench, cursor(set, u32::MAX - 1, 1, 0)), packets[3..]);
+    assert_eq!(rest(&mut bench, cursor(set, 0x7fff_ffff, 1, 0)), [u32::MAX]);
     assert_eq!(rest(&mut bench, cursor(set, u32::MAX, 1, 0)), [] as [u32; 0]);
     let all_others = bench.read(|r, s, w| set_complement(r, s, w, set)).unwrap();
     let others = [
-        (0, 2),
+        (0, 0x4000_0000),
         (0x7fff_fffe, 0x8000_0001),
-        (0x8000_00ff, 0x8000_0101),
-        (0xffff_fffc, 0xffff_fffe),
+        (0xff00_0001, 0x8080_0001),
+        (0x3fff_ffff, 0x7fff_ffff),
     ];
     for (last, other) in others {
         assert_eq!(step(&mut bench, cursor(all_others, last, 1, 0)).0, Ok(Some(other)));
     }
-    assert_eq!(step(&mut bench, cursor(all_others, 0xffff_fffe, 1, 0)).0, Ok(None));
+    assert_eq!(step(&mut bench, cursor(all_others, 0x7fff_ffff, 1, 0)).0, Ok(None));
 }
 
 /// The set of one packet of 32 fields, from its last field up.
 fn only(bench: &mut Bench, packet: u32) -> u32 {
     let mut mk = |x0, x1| bench.add_set(|r, s, w| set_mk(r, s, w, x0, x1)).unwrap();
     let (mut set, mut empty) = (1, 0);
-    for bit in 0..32 {
-        set = if packet >> bit & 1 == 1 { mk(empty, set) } else { mk(set, empty) };
+    for one in fields(32, packet).into_iter().rev() {
+        set = if one { mk(empty, set) } else { mk(set, empty) };
         empty = mk(empty, empty);
     }
     set
@@ -238,7 +242,7 @@ fn the_iterator_ends_after_the_end_and_after_a_refusal() {
     let mut bench = Bench::new(2, 6, 2);
     let Bench { relations, sets, work } = &mut bench;
     let packets: Vec<_> = members(relations, sets, work, 5).take(MOST + 1).collect();
-    assert_eq!(packets, [Ok(0), Ok(1), Ok(2), Ok(3)]);
+    assert_eq!(packets, [Ok(0), Ok(2), Ok(1), Ok(3)]);
     let mut level_1 = members(relations, sets, work, 3);
     assert_eq!([level_1.next(), level_1.next()], [Some(Ok(0)), Some(Ok(1))]);
     assert_eq!([level_1.next(), level_1.next()], [None, None]);

@@ -217,7 +217,7 @@ pub fn path(
 }
 
 // A number as a wider one.
-pub fn as_u64(x: u32) -> u64
+fn as_u64(x: u32) -> u64
     ensures { λ r. ⌜ r ≡ x ⌝ }
 {
     x as u64

@@ -2,7 +2,7 @@
 use mathlib.Core.Path.{_≡_, sym, ap, _∙_, subst}
 use mathlib.Core.List.{List, [], _∷_}
 use mathlib.Core.Bool.{true}
-use Prim.Native.Nat.{ℕ, suc, _+_, _-_, _*_, _/_, _%_, _^_, _<_}
+use Prim.Native.Nat.{ℕ, suc, _+_, _*_, _/_, _%_, _<_}
 use native.Mathlib.Omega.{arith}
 use lib.ListN.{getD}
 use Rattle.model.specs.Store.{set, rel, child}
@@ -40,8 +40,8 @@ module _ {o m w w₁ : List ℕ} {g l p a q n j d x0 x1 z0 z1 y00 y01 y10 y11 x 
     (X : ReadsChildren set m p (x0 ∷ x1 ∷ [])) (Z : ReadsChildren set m q (z0 ∷ z1 ∷ [])) (Y : ReadsChildren rel o a (y00 ∷ y01 ∷ y10 ∷ y11 ∷ []))
     (ex : d / 2 < 2 → x ≡ getD (x0 ∷ x1 ∷ []) (d / 2) 0) (ez : d % 2 < 2 → z ≡ getD (z0 ∷ z1 ∷ []) (d % 2) 0)
     (ey : d < 4 → y ≡ getD (y00 ∷ y01 ∷ y10 ∷ y11 ∷ []) d 0)
-    (rest : FindsPair (OtherNodes set o j) l x y z n m w₁ u v) (su : u < 2 ^ l) (sv : v < 2 ^ l)
-    (ei : d / 2 < 2 → i ≡ u + d / 2 * 2 ^ l) (ek : d % 2 < 2 → k ≡ v + d % 2 * 2 ^ l) where
+    (rest : FindsPair (OtherNodes set o j) l x y z n m w₁ u v)
+    (ei : d / 2 < 2 → i ≡ d / 2 + 2 * u) (ek : d % 2 < 2 → k ≡ d % 2 + 2 * v) where
   D : PerformsOn (OtherNodes set o j) set (first-digit (suc l) p a q) (run-state true n 0) m m w w₁ r
   D = subst (λ g. PerformsOn (OtherNodes set o j) set (first-digit g p a q) (run-state true n 0) m m w w₁ r) eg G
 
@@ -65,8 +65,8 @@ module _ {o m w w₁ : List ℕ} {g l p a q n j d x0 x1 z0 z1 y00 y01 y10 y11 x 
         (subst (Held set S l) fz (Q .below (d % 2) b′)) (three (λ x y z. Some l (λ s. Some l (λ t. Through S x y z s t))) fx fy fz (T .some)) in
         let next = T .next (packet l u) (packet l v)
         (three (λ x y z. FirstPair l (Through S x y z) (packet l u) (packet l v)) (sym fx) (sym fy) (sym fz) first) in
-        subst (λ s. FirstPair (suc l) (Through S p a q) s (packet (suc l) k)) (sym (ap (packet (suc l)) (ei b) ∙ packet-more l (d / 2) u b su))
-        (subst (λ t. FirstPair (suc l) (Through S p a q) (d / 2 ∷ packet l u) t) (sym (ap (packet (suc l)) (ek b′) ∙ packet-more l (d % 2) v b′ sv)) next);
+        subst (λ s. FirstPair (suc l) (Through S p a q) s (packet (suc l) k)) (sym (ap (packet (suc l)) (ei b) ∙ packet-more l (d / 2) u b))
+        (subst (λ t. FirstPair (suc l) (Through S p a q) (d / 2 ∷ packet l u) t) (sym (ap (packet (suc l)) (ek b′) ∙ packet-more l (d % 2) v b′)) next);
   }
 
   pub pair-next : FindsPair (OtherNodes set o j) g p a q n m w i k

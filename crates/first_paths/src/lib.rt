@@ -125,16 +125,13 @@ fn side(x: sets::SPnode, b: u32) -> u32
     x.x1
 }
 
-// The number of the packet with this bit before the fields of the packet n, of so many fields.
-fn with_bit(b: u32, n: u32, fields: u8) -> u32
-    requires { ⌜ (fields ≤ 31) × (n < 2 ^ fields) ⌝ }
-    ensures is { λ r. ⌜ (b < 2 → r ≡ n + b * 2 ^ fields) ⌝ }
-    ensures small { λ r. ⌜ r < 2 ^ (fields + 1) ⌝ }
+// The number of the packet with this bit before the fields of the packet n.
+fn with_bit(b: u32, n: u32) -> u32
+    requires { ⌜ n < 2 ^ 31 ⌝ }
+    ensures is { λ r. ⌜ (b < 2 → r ≡ b + 2 * n) ⌝ }
+    ensures small { λ r. ⌜ r ≤ 2 * n + 1 ⌝ }
 {
-    if b == 0 {
-        return n;
-    }
-    n + members::none_at(fields)
+    2 * n + b % 2
 }
 
 // The first pair of a relation from p to q, where there is one; m is the count of sets.
@@ -172,7 +169,7 @@ pub fn first_pair(
     let below = level - 1;
     let rest = first_pair(relations, sets, work, m, below, x, y, z);
     Pair {
-        input: with_bit(d / 2, rest.input, below),
-        output: with_bit(d % 2, rest.output, below),
+        input: with_bit(d / 2, rest.input),
+        output: with_bit(d % 2, rest.output),
     }
 }

@@ -1,7 +1,9 @@
-// The first packet of a set, and the first from a rank on, by its rank.
+// Ranks: of a packet by its number, of the first packet of a set, and of the first from a rank on.
 ghost use mathlib.Core.Path.{_≡_};
 ghost use Prim.Native.Nat.{_+_, _^_, _≤_, min};
 ghost use Rattle.model.specs.Store.{set};
+ghost use Rattle.model.specs.Packets.{packet};
+ghost use Rattle.model.specs.FieldOrder.{rank};
 ghost use Rattle.model.specs.FirstInputs.{first-member};
 ghost use Rattle.memory.specs.Performing.{Performs};
 ghost use Rattle.first_paths.specs.FromRanks.{FindsFrom};
@@ -13,6 +15,22 @@ pub fn none_at(level: u8) -> u32
     ensures { λ r. ⌜ r ≡ 2 ^ level ⌝ }
 {
     memory::power(level) as u32
+}
+
+// The rank of the packet with the number n, whose bits it has in the other order; so it is also the number of the packet of rank n.
+pub fn reversed(level: u8, n: u32) -> u32
+    requires { ⌜ level ≤ 32 ⌝ }
+    ensures { λ r. ⌜ r ≡ rank (packet level n) ⌝ }
+{
+    let mut r: u32 = 0;
+    let mut rest = n;
+    let mut l = level;
+    while l > 0 {
+        r = 2 * r + rest % 2;
+        rest = rest / 2;
+        l -= 1;
+    }
+    r
 }
 
 // The rank of the packet with 1 before the fields of the one of rank n, of this level.

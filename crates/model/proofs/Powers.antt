@@ -1,6 +1,6 @@
 -- Powers of 2.
-use mathlib.Core.Path.{_≡_, _∙_}
-use Prim.Native.Nat.{ℕ, zero, suc, _+_, _-_, _*_, _/_, _^_, _<_, _≤_}
+use mathlib.Core.Path.{_≡_}
+use Prim.Native.Nat.{ℕ, zero, suc, _+_, _*_, _^_, _<_, _≤_}
 use native.Mathlib.Omega.{arith}
 use native.Mathlib.Decide.{decLt}
 use native.Mathlib.Nat.{pow-suc, pow-zero}
@@ -18,7 +18,3 @@ pow-less i (suc n) h = elim (decLt n i) [
   | yes g ↦ (let e : i ≡ suc n = omega arith in rw e (omega arith))
   | no g ↦ (let t = pow-less i n (omega arith) in rw pow-suc (omega arith))
 ]
-
-pub pow-half : (l u : ℕ) → 0 < l → u ≡ 2 ^ l → u / 2 ≡ 2 ^ (l - 1)
-pow-half zero u h e = absurd (omega arith)
-pow-half (suc l) u h e = let d : suc l - 1 ≡ l = omega arith in let f : u ≡ 2 ^ l * 2 = e ∙ rw pow-suc (omega arith) in rw d (omega (arith, f))

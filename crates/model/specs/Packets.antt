@@ -1,8 +1,7 @@
 -- Packets, as numbers and field by field, and the walk that says what a handle holds; 01, "The store", "A list of calls".
 use mathlib.Core.Path.{_≡_}
 use mathlib.Core.List.{List, [], _∷_}
-use Prim.Native.Nat.{ℕ, zero, suc, _+_, _*_, _/_, _%_, _^_, _<_}
-use lib.ListN.{length}
+use Prim.Native.Nat.{ℕ, zero, suc, _+_, _*_, _/_, _%_, _<_}
 use Rattle.model.specs.Store.{Kind, set, rel, arity, Store, child}
 
 -- l digits, each the number of a child
@@ -14,16 +13,16 @@ pub data Digits (K : Kind) : ℕ → List ℕ → Type 0 where
 abbrev pub Packet : ℕ → List ℕ → Type 0
 Packet l p = Digits set l p
 
--- PACKET NUMBERS. 01: "A packet of k fields is a number below 2^k; field 0 is its most significant bit."
+-- PACKET NUMBERS. 01: "A packet of k fields is a number below 2^k"; 02, M-105: "field 0 is the least significant bit of a packet number".
 -- `packet l n` is the packet of l fields with the number n, `number` its inverse. The order of packets is no matter of their numbers and
 -- goes by FieldOrder. Beside the laws in proofs/Numbers, proofs/Walking of `call_rules` unfolds `packet`, for the loop of `relates`.
 unfoldable pub packet : ℕ → ℕ → List ℕ
 packet zero n = []
-packet (suc l) n = n / 2 ^ l % 2 ∷ packet l n
+packet (suc l) n = n % 2 ∷ packet l (n / 2)
 
 unfoldable pub number : List ℕ → ℕ
 number [] = 0
-number (b ∷ p) = number p + b * 2 ^ length p
+number (b ∷ p) = b + 2 * number p
 
 -- the digits of an input and an output packet: 01, "first digit input bit, second output bit"
 abbrev pub digits : List ℕ → List ℕ → List ℕ

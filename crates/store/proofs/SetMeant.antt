@@ -80,4 +80,4 @@ module _ {k : ℕ} {S : Store} {l : ℕ} (F : WellFormed k S) where
   set-read-safe (IsZero a) e = is-zero-does set l a F (own set S l a (one-passed F set a e .held)) .safe
   set-read-safe (Intersects a b) e =
       let t = two-passed F set a b e in intersects-does l a b F (t .0 .low) (own set S l a (t .0 .held)) (own set S l b (t .1 .held)) .safe
-  set-read-safe (Next c) e = let q = also-passed _ _ _ e in (one-passed F set (c .handle) (q .0) .held, q .1)
+  set-read-safe (Next c) e = one-passed F set (c .handle) (also-passed _ _ _ e .0) .held

@@ -1,14 +1,13 @@
 -- What the code of the calls on sets asks of a call.
-use mathlib.Core.Path.{_≡_}
-use mathlib.Core.Bool.{true}
 use Prim.Native.Nat.{ℕ, _+_, _<_}
 use lib.Dec.{eqb}
 use Rattle.model.specs.Store.{set, Store, pick}
+use Rattle.model.specs.Packets.{packet}
+use Rattle.model.specs.FieldOrder.{rank}
 use Rattle.model.specs.Operations.{is-zero}
 use Rattle.model.specs.Sets.{intersects}
 use Rattle.model.specs.Safety.{Within, Safe}
 use Rattle.model.specs.WellFormed.{Held}
-use Rattle.store.specs.Cursors.{last-fits?}
 use Rattle.store.specs.declared.set_calls.SetCall.{SetCall}
 use Rattle.store.specs.declared.set_calls.SetCall.the-variants.{Mk, Zero, One, Union, Intersect, Xor, Difference, Test, Ifelse}
 use Rattle.store.specs.declared.set_reads.Cursor.{Cursor}
@@ -33,8 +32,8 @@ SetReadSafe S l (Get a) = Within set S a
 SetReadSafe S l (Complement a) = Unit {0}
 SetReadSafe S l (IsZero a) = Safe (is-zero set l a) S
 SetReadSafe S l (Intersects a b) = Safe (intersects l a b) S
-SetReadSafe S l (Next c) = Held set S l (c .handle) × (last-fits? l c ≡ true)
+SetReadSafe S l (Next c) = Held set S l (c .handle)
 
--- the rank from which on members are to come, field order's place of the last packet being its number
-abbrev pub from-rank : Cursor → ℕ
-from-rank c = pick (eqb (c .given) 0) 0 (c .last + 1)
+-- the rank from which on members of level l are to come
+abbrev pub from-rank : ℕ → Cursor → ℕ
+from-rank l c = pick (eqb (c .given) 0) 0 (rank (packet l (c .last)) + 1)

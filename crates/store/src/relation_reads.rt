@@ -43,13 +43,14 @@ fn relates(nodes: &[u32], level: u8, a: u32, input: u32, output: u32) -> bool
     ensures { λ r. ⌜ WalksPair (now (nodes .entry)) level a input output r ⌝ }
 {
     let mut h = a;
+    let mut i = input;
+    let mut o = output;
     let mut l = level;
-    let mut unit = memory::power(level);
     while l > 0 {
-        unit = unit / 2;
-        let i = call_rules::operands::as_u64(input) / unit % 2;
-        let o = call_rules::operands::as_u64(output) / unit % 2;
-        h = memory::property_words::child_of(nodes, 4, h, (2 * i + o) as usize);
+        let digit = 2 * (i % 2) + o % 2;
+        h = memory::property_words::child_of(nodes, 4, h, digit as usize);
+        i = i / 2;
+        o = o / 2;
         l -= 1;
     }
     h == 1

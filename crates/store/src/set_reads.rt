@@ -45,14 +45,17 @@ fn check(nodes: &[u32], n: usize, k: u32, call: SetRead) -> call_rules::Check
     }
 }
 
-// The rank from which on members are to come.
-fn from(c: Cursor) -> u64
-    ensures { λ r. ⌜ r ≡ from-rank c ⌝ }
+// The rank from which on members of this level are to come.
+fn from(level: u8, c: Cursor) -> u64
+    requires { ⌜ level ≤ 32 ⌝ }
+    ensures { λ r. ⌜ r ≡ from-rank level c ⌝ }
 {
     if c.given == 0 {
         return 0;
     }
-    c.last as u64 + 1
+    let last = c.last;
+    let rank = first_paths::members::reversed(level, last);
+    rank as u64 + 1
 }
 
 // The next member of a set of this level.
@@ -64,9 +67,10 @@ fn next_member(nodes: &[u32], work: &[u32], level: u8, c: Cursor) -> call_rules:
     if c.ended != 0 {
         return call_rules::Answer::Nothing;
     }
-    let r = first_paths::members::first_from(nodes, work, level, c.handle, from(c));
+    let r = first_paths::members::first_from(nodes, work, level, c.handle, from(level, c));
     if r < memory::power(level) {
-        let x = r as u32;
+        let rank = r as u32;
+        let x = first_paths::members::reversed(level, rank);
         return call_rules::Answer::Member(x);
     }
     call_rules::Answer::Nothing

@@ -26,5 +26,6 @@ pub mod MkAdded
 pub mod WrongTexts
 pub mod MembersInTurn
 pub mod WrongMembers
+pub mod WrongNumbers
 pub mod Worked
 pub mod WrongCounts

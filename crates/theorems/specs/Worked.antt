@@ -1,4 +1,4 @@
--- Document 01, "Calls with their handles": the calls in its order, each with its answer; and 02, M-100, M-101, M-103 and M-104.
+-- Document 01, "Calls with their handles": the calls in its order, each with its answer; and 02, M-100, M-101 and M-103 to M-105.
 use mathlib.Core.Path.{_≡_}
 use mathlib.Core.List.{List, [], _∷_, map}
 use mathlib.Core.Bool.{Bool, true, false}
@@ -194,8 +194,8 @@ two-fields =
     -- and those that add nothing
     ∷ expects (relation-read (RR.Get 37)) (RelationNode 2 4 2 6)
     ∷ decides (relation-read (RR.IsZero 37)) false
-    ∷ decides (relation-read (RR.Relates 37 0 2)) true
-    ∷ decides (relation-read (RR.Relates 37 2 0)) false
+    ∷ decides (relation-read (RR.Relates 37 0 1)) true
+    ∷ decides (relation-read (RR.Relates 37 1 0)) false
     ∷ expects (set-read (TR.Get 19)) (SetNode 7 3)
     ∷ yields (set-read (TR.Complement 18)) 19
     ∷ decides (set-read (TR.IsZero 4)) true
@@ -215,8 +215,8 @@ first-pairs =
     ∷ yields (relation-call (R.Mk 1 0 0 0)) 9
     ∷ yields (relation-call (R.Mk 8 9 2 2)) 10
     ∷ yields (set-call (T.Test 0 0)) 7
-    ∷ expects (path-read (FirstPath 5 10 5)) (Pair 0 2)
-    ∷ expects (path-read (FirstPath 5 10 7)) (Pair 1 0)
+    ∷ expects (path-read (FirstPath 5 10 5)) (Pair 0 1)
+    ∷ expects (path-read (FirstPath 5 10 7)) (Pair 2 0)
     ∷ expects (path-read (FirstPath 4 10 5)) Nothing
     ∷ refuses (path-read (FirstPath 3 10 99)) NotHeld
     ∷ refuses (path-read (FirstPath 3 10 5)) LevelsDiffer
@@ -235,16 +235,17 @@ members-in-turn =
     yields (new-store 2) 7
     ∷ yields (set-call (T.Test 0 1)) 6
     ∷ expects (next 5 0 0 0) (Member 0)
-    ∷ expects (next 5 0 1 0) (Member 1)
-    ∷ expects (next 5 1 1 0) (Member 2)
-    ∷ expects (next 5 2 1 0) (Member 3)
+    ∷ expects (next 5 0 1 0) (Member 2)
+    ∷ expects (next 5 2 1 0) (Member 1)
+    ∷ expects (next 5 1 1 0) (Member 3)
     ∷ expects (next 5 3 1 0) Nothing
     -- the end was met: it stays, whatever was given; any number but 0 is a mark
     ∷ expects (next 5 0 1 1) Nothing
     ∷ expects (next 5 0 7 9) Nothing
     -- the last packet need not be a member, nor is it looked at where none was given
-    ∷ expects (next 6 0 7 0) (Member 2)
-    ∷ expects (next 6 77 0 0) (Member 2)
+    ∷ expects (next 6 0 7 0) (Member 1)
+    ∷ expects (next 6 2 1 0) (Member 1)
+    ∷ expects (next 6 77 0 0) (Member 1)
     ∷ expects (next 4 77 0 0) Nothing
     -- 2 and 5 come before the end
     ∷ refuses (next 99 4 1 1) NotHeld
@@ -254,6 +255,25 @@ members-in-turn =
     ∷ expects (next 1 0 1 0) Nothing
     ∷ expects (next 0 0 0 0) Nothing
     ∷ refuses (next 1 1 1 0) OutOfRange
+    ∷ []
+
+-- 02, M-105: "For k = 2, `x0=1` passes 1 and 3"
+abbrev pub low-end : List Expected
+low-end =
+    yields (new-store 2) 7
+    ∷ text-yields (120 ∷ 48 ∷ 61 ∷ 49 ∷ []) 8
+    ∷ decides (relation-read (RR.Relates 8 0 0)) false
+    ∷ decides (relation-read (RR.Relates 8 1 1)) true
+    ∷ decides (relation-read (RR.Relates 8 2 2)) false
+    ∷ decides (relation-read (RR.Relates 8 3 3)) true
+    -- `x0:=1` leads from 2 to 3, and not from 0 to 2
+    ∷ text-yields (120 ∷ 48 ∷ 58 ∷ 61 ∷ 49 ∷ []) 9
+    ∷ decides (relation-read (RR.Relates 9 2 3)) true
+    ∷ decides (relation-read (RR.Relates 9 0 2)) false
+    -- the bound is that of the handle's own level: 4 is the identity of level 1
+    ∷ refuses (relation-read (RR.Relates 9 4 0)) OutOfRange
+    ∷ decides (relation-read (RR.Relates 4 1 1)) true
+    ∷ refuses (relation-read (RR.Relates 4 2 2)) OutOfRange
     ∷ []
 
 -- 02, M-101: a text whose handle was held before, and which adds two nodes; again, and it adds none
@@ -296,5 +316,6 @@ pub record Worked : Type 0 where
   pub ordered : TableRight 146 21 two-fields
   pub first : TableRight 38 7 first-pairs
   pub members : TableRight 26 7 members-in-turn
+  pub numbered : TableRight 34 5 low-end
   pub added-nodes : CountsRight 26 5 added
   pub used-up : CountsRight 18 3 none-added

@@ -75,6 +75,6 @@ fn judge(k: u32, one: &str, other: &str) -> Result<Verdict, PolicyRefusal> {
 fn header(packet: u32, k: u32) -> String {
     match k {
         0 => "-".into(),
-        _ => format!("{packet:00$b}", k as usize),
+        _ => (0..k).map(|field| if packet >> field & 1 == 1 { '1' } else { '0' }).collect(),
     }
 }

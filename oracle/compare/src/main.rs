@@ -13,6 +13,7 @@ mod orders;
 mod pairs;
 mod rules;
 mod said;
+mod sequence;
 mod texts;
 
 use case::Difference;
@@ -28,6 +29,7 @@ const USAGE: &str = "usage: compare calls SEED COUNT [sets | relations | both | 
        compare pairs SEED COUNT
        compare triples LEVEL WORK
        compare members SEED ROUNDS
+       compare sequence
        compare growth";
 
 fn main() -> ExitCode {
@@ -66,6 +68,7 @@ fn run(words: &[&str]) -> Option<Result<String, Difference>> {
         ["members", seed, rounds] => {
             Some(members::compare(seed.parse().ok()?, rounds.parse().ok()?))
         }
+        ["sequence"] => Some(Ok(sequence::printed())),
         ["growth"] => Some(Ok(growth::measure())),
         _ => None,
     }

@@ -5,6 +5,7 @@ use crate::library::{self, Asked, Memories};
 use crate::memory::RELATION_HEAD;
 use oracle::answer::Answer;
 use oracle::check::text_relation;
+use oracle::packet::field_is_one;
 use oracle::policy::judge;
 
 /// The fields up to which all pairs are compared.
@@ -36,11 +37,11 @@ pub fn compare(text: &[u8], handle: u32, fields: u32, case: &mut Case) -> Result
     Ok(())
 }
 
-/// Whether the walk from a handle ends at 1, by the pair's fields from field 0, the highest bit, on.
+/// Whether the walk from a handle ends at 1, by the pair's fields from field 0 on.
 fn walk(relations: &[u32], handle: u32, fields: u32, input: u32, output: u32) -> bool {
-    let down = |at: u32, bit: u32| {
-        let child = 2 * (input >> bit & 1) + (output >> bit & 1);
-        relations[RELATION_HEAD + (4 * (at - 2) + child) as usize]
+    let down = |at: u32, field: u32| {
+        let [input, output] = [input, output].map(|packet| u32::from(field_is_one(packet, field)));
+        relations[RELATION_HEAD + (4 * (at - 2) + 2 * input + output) as usize]
     };
-    (0..fields).rev().fold(handle, down) == 1
+    (0..fields).fold(handle, down) == 1
 }

@@ -9,11 +9,11 @@ use crate::memory::{decode, lengths};
 use crate::said::Said;
 use oracle::answer::{Answer, Refusal};
 use oracle::call::Call;
-use oracle::check::field_order;
 use oracle::check::members::{each_set, Step};
 use oracle::draw::handles::Handles;
 use oracle::draw::{Draw, Part};
 use oracle::next_member::moved;
+use oracle::packet::{field_is_one, field_order};
 use oracle::random::Random;
 use oracle::store::Store;
 use std::collections::BTreeSet;
@@ -29,7 +29,7 @@ const BETWEEN: usize = 3;
 const CALLS_BEFORE: usize = 40;
 const CALLS: usize = 160;
 /// The fields of the sets of few packets, the places of their store, for relations as many as `new` needs, and the most packets.
-const MANY_FIELDS: u32 = 32;
+pub const MANY_FIELDS: u32 = 32;
 const PLACES: (usize, usize) = (96, 4096);
 const FEW: u32 = 24;
 /// The working memory with which they are made.
@@ -174,14 +174,7 @@ impl Run {
     /// Drawn sets of a store of at most 8 fields, each from its beginning, from any packet of its level and from the level's last.
     fn drawn_sets(&mut self) -> Result<(), Differs> {
         let fields = self.random.below(WALKED_TO + 1);
-        let mut store = Store::new(fields, 3 * fields, 4096).expect("the places suffice");
-        let mut handles = Handles::new(&store);
-        for _ in 0..fields * self.random.below(40) {
-            let level = self.random.below(fields);
-            let children = [(); 2].map(|()| handles.pick_set(level, &mut self.random));
-            store.ask("set.mk", &children);
-            handles.grow(&store);
-        }
+        let (store, handles) = drawn(fields, &mut self.random);
         let mut case = holding(&store, &mut self.random);
         for _ in 0..SETS {
             let (handle, packets) = self.walked(&store, &handles);
@@ -204,12 +197,11 @@ impl Run {
         let level = if self.random.once_in(3) { self.random.below(most + 1) } else { most };
         let handle = handles.pick_set(level, &mut self.random);
         let nodes: Vec<[u32; 2]> = store.set_nodes().collect();
-        // A handle's parity is kept in its children; field 0 is the packet's highest bit.
-        let down = |at: u32, packet: u32, bit: u32| {
-            nodes[at as usize / 2 - 1][(packet >> bit & 1) as usize] ^ (at & 1)
+        // A handle's parity is kept in its children.
+        let down = |at: u32, packet: u32, field: u32| {
+            nodes[at as usize / 2 - 1][usize::from(field_is_one(packet, field))] ^ (at & 1)
         };
-        let has =
-            |&packet: &u32| (0..level).rev().fold(handle, |at, bit| down(at, packet, bit)) == 1;
+        let has = |&packet: &u32| (0..level).fold(handle, |at, field| down(at, packet, field)) == 1;
         let mut packets: Vec<u32> = (0..1 << level).filter(has).collect();
         packets.sort_by(|&p, &q| field_order(level, p, q));
         (handle, packets)
@@ -217,31 +209,12 @@ impl Run {
 
     /// A set of few packets of 32 fields, made by the library, from its beginning and from packets in it, beside them and others.
     fn few_packets(&mut self) -> Result<(), Differs> {
-        let mut packets = vec![];
-        for _ in 0..1 + self.random.below(FEW) {
-            let near = packets.last().copied().unwrap_or(0);
-            packets.push(match self.random.below(6) {
-                0 => self.random.pick(&[0, 1, 1 << 31, u32::MAX - 1, u32::MAX]),
-                1 => near ^ 1 << self.random.below(MANY_FIELDS),
-                2 => near.wrapping_add(1),
-                _ => self.random.bits() as u32,
-            });
-        }
-        let lengths = lengths(PLACES.0, PLACES.1, (1, 1));
-        let mut case = Case::noise(lengths, Guard::Words, &mut self.random);
-        handle(&mut case, "new", &[MANY_FIELDS]);
-        let mut set = handle(&mut case, "set.zero", &[]);
-        for &packet in &packets {
-            let only = only(&mut case, packet);
-            set = handle(&mut case, "set.union", &[set, only]);
-        }
-        packets.sort_by(|&p, &q| field_order(MANY_FIELDS, p, q));
-        packets.dedup();
+        let (mut case, set, packets) = few(&mut self.random);
         self.counts.few.enter(&packets);
         self.whole(&mut case, MANY_FIELDS, [set, 0, 0, 0], &packets)?;
         let one = self.random.pick(&packets);
         let any = self.random.bits() as u32;
-        for last in [one, one.wrapping_sub(1), one.wrapping_add(1), any, 0, u32::MAX] {
+        for last in [one, beside(one, -1), beside(one, 1), any, 0, u32::MAX] {
             let left = after(MANY_FIELDS, last, &packets);
             self.counts.few.enter(&left);
             self.whole(&mut case, MANY_FIELDS, [set, last, 1, 0], &left)?;
@@ -356,8 +329,51 @@ fn after(level: u32, last: u32, packets: &[u32]) -> Vec<u32> {
     packets.iter().copied().filter(|&packet| field_order(level, last, packet).is_lt()).collect()
 }
 
+/// A store of so many fields with drawn sets.
+pub fn drawn(fields: u32, random: &mut Random) -> (Store, Handles) {
+    let mut store = Store::new(fields, 3 * fields, 4096).expect("the places suffice");
+    let mut handles = Handles::new(&store);
+    for _ in 0..fields * random.below(40) {
+        let level = random.below(fields);
+        let children = [(); 2].map(|()| handles.pick_set(level, random));
+        store.ask("set.mk", &children);
+        handles.grow(&store);
+    }
+    (store, handles)
+}
+
+/// A store of 32 fields, a set of few packets that the library made in it, and these packets in field order.
+pub fn few(random: &mut Random) -> (Case, u32, Vec<u32>) {
+    let mut packets = vec![];
+    for _ in 0..1 + random.below(FEW) {
+        let near = packets.last().copied().unwrap_or(0);
+        packets.push(match random.below(6) {
+            0 => random.pick(&[0, 1, 1 << 31, u32::MAX >> 1, u32::MAX - 1, u32::MAX]),
+            1 => near ^ 1 << random.below(MANY_FIELDS),
+            2 => beside(near, 1),
+            _ => random.bits() as u32,
+        });
+    }
+    let lengths = lengths(PLACES.0, PLACES.1, (1, 1));
+    let mut case = Case::noise(lengths, Guard::Words, random);
+    handle(&mut case, "new", &[MANY_FIELDS]);
+    let mut set = handle(&mut case, "set.zero", &[]);
+    for &packet in &packets {
+        let only = only(&mut case, packet);
+        set = handle(&mut case, "set.union", &[set, only]);
+    }
+    packets.sort_by(|&p, &q| field_order(MANY_FIELDS, p, q));
+    packets.dedup();
+    (case, set, packets)
+}
+
+/// The packet of 32 fields that stands so many places after this one in field order, in which packets go by their number with the bits reversed.
+fn beside(packet: u32, places: i32) -> u32 {
+    packet.reverse_bits().wrapping_add_signed(places).reverse_bits()
+}
+
 /// Memories with a store and no place left.
-fn holding(store: &Store, random: &mut Random) -> Case {
+pub fn holding(store: &Store, random: &mut Random) -> Case {
     let (n, m) = store.counts();
     let mut case = Case::noise(lengths(n as usize, m as usize, (1, 1)), Guard::Words, random);
     case.encode(store);
@@ -374,11 +390,11 @@ fn begins_store(call: &Call) -> bool {
     }
 }
 
-/// The set of one packet of 32 fields, from its last field up; field 0 is its highest bit.
+/// The set of one packet of 32 fields, from its last field up.
 fn only(case: &mut Case, packet: u32) -> u32 {
     let (mut set, mut empty) = (1, 0);
-    for bit in 0..MANY_FIELDS {
-        let children = if packet >> bit & 1 == 1 { [empty, set] } else { [set, empty] };
+    for field in (0..MANY_FIELDS).rev() {
+        let children = if field_is_one(packet, field) { [empty, set] } else { [set, empty] };
         set = handle(case, "set.mk", &children);
         empty = handle(case, "set.mk", &[empty, empty]);
     }

@@ -10,6 +10,7 @@ use crate::said::Said;
 use oracle::answer::Answer;
 use oracle::check::pairs::each_relation;
 use oracle::draw::{Draw, Part};
+use oracle::packet::field_is_one;
 use oracle::random::Random;
 use oracle::replay::empty_store;
 use oracle::store::Store;
@@ -124,7 +125,7 @@ pub fn compare(seed: u64, count: u64) -> Result<String, Difference> {
 }
 
 /// A set, a relation and a set of one level, mostly of the highest, often among the last made.
-fn triple(store: &Store, random: &mut Random) -> Option<[u32; 3]> {
+pub fn triple(store: &Store, random: &mut Random) -> Option<[u32; 3]> {
     let (n, m) = store.counts();
     let fields = store.fields();
     let level = if random.once_in(4) { random.below(fields + 1) } else { fields };
@@ -241,11 +242,11 @@ impl Beside {
     }
 
     /// A set made from its last field up: the children from what is below, the empty and the full set there, and the
-    /// packet's field. Field 0 is the highest bit.
+    /// packet's field.
     fn walk(&mut self, packet: u32, last: u32, children: Children) -> u32 {
         let (mut below, mut empty, mut full) = (last, 0, 1);
-        for bit in 0..self.level {
-            let made = children(below, empty, full, packet >> bit & 1 == 1);
+        for field in (0..self.level).rev() {
+            let made = children(below, empty, full, field_is_one(packet, field));
             below = self.make("set.mk", &made);
             empty = self.make("set.mk", &[empty, empty]);
             full = self.make("set.mk", &[full, full]);

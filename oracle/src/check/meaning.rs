@@ -1,6 +1,7 @@
 //! What document 01 says each operation means, on plain sets and relations.
 
-use super::plain::{field_is_one, field_order, packets, PacketRelation, PacketSet};
+use super::plain::{packets, PacketRelation, PacketSet};
+use crate::packet::{field_is_one, field_order};
 
 /// An operand or a result.
 #[derive(Clone, Debug, PartialEq, Eq)]
@@ -53,12 +54,12 @@ pub fn meaning(name: &str, fields: u32, x: &[Value]) -> Value {
         "set.difference" => set(s(0).level, |p| s(0).has(p) && !s(1).has(p)),
         "set.complement" => set(s(0).level, |p| !s(0).has(p)),
         "set.is_zero" => Value::YesNo(s(0).is_empty()),
-        "set.test" => set(fields, |p| field_is_one(p, fields, n(0)) == (n(1) == 1)),
+        "set.test" => set(fields, |p| field_is_one(p, n(0)) == (n(1) == 1)),
         "set.zero" => set(fields, |_| false),
         "set.one" => set(fields, |_| true),
         "intersects" => Value::YesNo(exists(s(0).level, &|p| s(0).has(p) && s(1).has(p))),
         "ifelse" => set(s(1).level, |p| {
-            let branch = if field_is_one(p, s(1).level, n(0)) { 1 } else { 2 };
+            let branch = if field_is_one(p, n(0)) { 1 } else { 2 };
             s(branch).has(p)
         }),
         "set.next" => {
@@ -76,9 +77,7 @@ pub fn meaning(name: &str, fields: u32, x: &[Value]) -> Value {
         "rel.difference" => relation(r(0).level, |p, q| r(0).has(p, q) && !r(1).has(p, q)),
         "rel.complement" => relation(r(0).level, |p, q| !r(0).has(p, q)),
         "rel.is_zero" => Value::YesNo(r(0).is_empty()),
-        "rel.test" => {
-            relation(fields, |p, q| p == q && field_is_one(p, fields, n(0)) == (n(1) == 1))
-        }
+        "rel.test" => relation(fields, |p, q| p == q && field_is_one(p, n(0)) == (n(1) == 1)),
         "rel.zero" => relation(fields, |_, _| false),
         "rel.one" => relation(fields, |p, q| p == q),
         "top" => relation(fields, |_, _| true),
@@ -88,7 +87,7 @@ pub fn meaning(name: &str, fields: u32, x: &[Value]) -> Value {
         "star" => Value::Relation(r(0).star()),
         "flip" => relation(r(0).level, |p, q| r(0).has(q, p)),
         "assign" => relation(fields, |p, q| {
-            let bit = 1 << (fields - 1 - n(0));
+            let bit = 1 << n(0);
             q == if n(1) == 1 { p | bit } else { p & !bit }
         }),
         "naive_forward" => {
@@ -109,11 +108,13 @@ pub fn meaning(name: &str, fields: u32, x: &[Value]) -> Value {
             s(0).has(p) && exists(s(0).level, &|q| r(1).has(p, q) && s(2).has(q))
         })),
         "first_path" => {
-            // All pairs in order: by number, since field 0 is the highest bit.
-            let all = 0..packets(s(0).level);
-            let mut pairs = all.clone().flat_map(|p| all.clone().map(move |q| (p, q)));
+            let level = s(0).level;
+            let all = 0..packets(level);
+            let pairs = all.clone().flat_map(|p| all.clone().map(move |q| (p, q)));
             let related = |&(p, q): &(u32, u32)| s(0).has(p) && r(1).has(p, q) && s(2).has(q);
-            Value::Pair(pairs.find(related))
+            Value::Pair(pairs.filter(related).min_by(|x, y| {
+                field_order(level, x.0, y.0).then_with(|| field_order(level, x.1, y.1))
+            }))
         }
         _ => panic!("no meaning for {name}"),
     }

@@ -14,7 +14,6 @@ use crate::operations::{self, Operation, Sort};
 use crate::random::Random;
 use bench::Bench;
 use meaning::Value;
-pub use plain::field_order;
 pub use policies::text_relation;
 use std::io::{self, Write};
 

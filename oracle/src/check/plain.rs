@@ -1,22 +1,9 @@
 //! Plain sets and relations of packets, by which the operations are judged.
 //! Packets have at most 6 fields, so that a set of them fits in 64 bits.
 
-use std::cmp::Ordering;
-
 /// How many packets have `level` fields.
 pub fn packets(level: u32) -> u32 {
     1 << level
-}
-
-/// Whether field `field` of a packet of `level` fields is 1; field 0 is the highest bit.
-pub fn field_is_one(packet: u32, level: u32, field: u32) -> bool {
-    packet >> (level - 1 - field) & 1 == 1
-}
-
-/// How two packets of `level` fields compare in field order: field by field from field 0 on, 0 before 1.
-pub fn field_order(level: u32, p: u32, q: u32) -> Ordering {
-    let fields = |packet| (0..level).map(move |field| field_is_one(packet, level, field));
-    fields(p).cmp(fields(q))
 }
 
 /// A set of packets: bit p is set where packet p is a member.
@@ -95,9 +82,9 @@ impl PacketRelation {
     /// The four parts by field 0 of input and output, 00, 01, 10, 11, without that field.
     pub fn split(&self) -> [PacketRelation; 4] {
         let level = self.level - 1;
-        let (low, high) = self.images.split_at(self.images.len() / 2);
-        [(low, 0), (low, 1), (high, 0), (high, 1)].map(|(images, half)| {
-            let images = images.iter().map(|&image| halves(level, image)[half]).collect();
+        [[0, 0], [0, 1], [1, 0], [1, 1]].map(|[input, output]| {
+            let images = self.images.iter().skip(input).step_by(2);
+            let images = images.map(|&image| halves(level, image)[output]).collect();
             PacketRelation { level, images }
         })
     }
@@ -105,9 +92,10 @@ impl PacketRelation {
     /// The inverse of `split`.
     pub fn join(parts: [PacketRelation; 4]) -> PacketRelation {
         let level = parts[0].level;
-        let images = [0, 2].iter().flat_map(|&row| {
-            let pairs = parts[row].images.iter().zip(&parts[row + 1].images);
-            pairs.map(|(&low, &high)| whole(level, low, high))
+        let images = (0..packets(level + 1) as usize).map(|input| {
+            let [low, high] =
+                [0, 1].map(|output| parts[2 * (input % 2) + output].images[input / 2]);
+            whole(level, low, high)
         });
         PacketRelation { level: level + 1, images: images.collect() }
     }
@@ -123,13 +111,12 @@ fn bits(level: u32, member: impl Fn(u32) -> bool) -> u64 {
     (0..packets(level)).map(|packet| u64::from(member(packet)) << packet).sum()
 }
 
-/// The two halves of a set's bits, each of packets of `level` fields.
-fn halves(level: u32, bits: u64) -> [u64; 2] {
-    let half = packets(level);
-    [bits & ((1 << half) - 1), bits >> half]
+/// The two halves of a set's bits, each of packets of `level` fields: those of the even packets, whose field 0 is 0, and of the odd ones.
+fn halves(level: u32, set: u64) -> [u64; 2] {
+    [0, 1].map(|first| bits(level, |rest| set >> (2 * rest + first) & 1 == 1))
 }
 
 /// The inverse of `halves`.
 fn whole(level: u32, low: u64, high: u64) -> u64 {
-    low | high << packets(level)
+    bits(level + 1, |packet| [low, high][packet as usize % 2] >> (packet / 2) & 1 == 1)
 }

@@ -1,4 +1,4 @@
-//! Lent memory for the tests: a refusal must leave it as it was, and an accepted call adds the nodes that it says.
+//! Lent memory for the tests: a refusal must leave it as it was, and an accepted call adds the nodes that it says. And the fields of a packet.
 
 // No test file uses all of it.
 #![allow(dead_code)]
@@ -129,6 +129,11 @@ impl Bench {
 /// The nodes held after a call less those before it.
 fn grown(before: Added, after: Added) -> Added {
     Added { relations: after.relations - before.relations, sets: after.sets - before.sets }
+}
+
+/// A packet's fields, field 0 first: bit f of its number is field f. So two packets of one level compare in field order.
+pub fn fields(level: u32, packet: u32) -> Vec<bool> {
+    (0..level).map(|field| packet >> field & 1 == 1).collect()
 }
 
 /// Ways to damage a store of 2 fields with 6 and 4 places, right after `new`: its set nodes are (0, 0) and (2, 2).

@@ -1,11 +1,12 @@
 -- `first_pair` finds the first pair; the measure is the level.
-use mathlib.Core.Path.{_≡_, refl, subst}
-use Prim.Native.Nat.{ℕ, _+_, _-_, _^_, _<_}
+use mathlib.Core.Path.{_≡_, refl, sym, subst}
+use Prim.Native.Nat.{ℕ, _+_, _-_, _*_, _^_, _<_, _≤_}
 use native.Mathlib.Omega.{arith}
+use native.Mathlib.Nat.{pow-suc}
 use borrow.Author.Needs.{needs}
 use borrow.Fn.Kinds.{In}
 use borrow.Fn.PlainCycle.{Measures, is, falls, and}
-use Rattle.model.proofs.Powers.{pow-pos}
+use Rattle.model.proofs.Powers.{pow-pos, pow-less}
 use Rattle.first_paths.proofs.Halves.{one-above}
 use Rattle.first_paths.proofs.Pairs.{pair-at-0, pair-next}
 use Rattle.first_paths.proofs.first_pair.Reads as first-pair
@@ -47,8 +48,12 @@ calls t = (
   with-bit-reads.Learnt,
 )
 
-below : (l n : ℕ) → (l ≡ 0 → ⊥) → n < 2 ^ (l - 1 + 1) → n < 2 ^ l
-below l n h i = subst (λ l. n < 2 ^ l) (let e : l - 1 + 1 ≡ l = omega arith in e) i
+-- the numbers of the rest have room for one more bit, and the numbers with it are of the level
+room : (l n : ℕ) → l ≤ 31 → n < 2 ^ l → n < 2147483648
+room l n h i = omega (arith, pow-less l 31 h, i)
+
+below : (l n r : ℕ) → (l ≡ 0 → ⊥) → n < 2 ^ (l - 1) → r ≤ 2 * n + 1 → r < 2 ^ l
+below l n r h i j = subst (λ l. r < 2 ^ l) (sym (one-above l h)) (rw pow-suc (omega arith))
 
 pub +first-pair-spec : {M : Type 1} → statement M
 +first-pair-spec = close μ-first-pair
@@ -69,12 +74,12 @@ pub +first-pair-spec : {M : Type 1} → statement M
     (λ c κs.
     let entry =
     c .before .before .before .before .before .before .before .before .before .before .before .before .before .before .before .before .before .before in
-    (omega (arith, entry .pre .1), c .before .before .first-pair .ensures .0 .0))
+    room _ _ (omega (arith, entry .pre .1)) (c .before .before .first-pair .ensures .0 .0))
     (λ c κs.
     let after-first-pair = c .before .before .before in
     let entry =
     after-first-pair .before .before .before .before .before .before .before .before .before .before .before .before .before .before .before .before in
-    (omega (arith, entry .pre .1), after-first-pair .first-pair .ensures .0 .1))
+    room _ _ (omega (arith, entry .pre .1)) (after-first-pair .first-pair .ensures .0 .1))
     (λ c. search needs)
     (λ c.
     let after-first-pair = c .before .before .before .before in
@@ -86,9 +91,12 @@ pub +first-pair-spec : {M : Type 1} → statement M
     let after-get = after-side .before in
     let after-first-digit = after-get .before .before .before in
     let at-if1 = after-first-digit .before .before in (
-      (below _ _ (at-if1 .if1 .left) (c .before .with-bit .ensures .1), below _ _ (at-if1 .if1 .left) (c .with-bit2 .ensures .1)),
+      (
+        below _ _ _ (at-if1 .if1 .left) (after-first-pair .first-pair .ensures .0 .0) (c .before .with-bit .ensures .1),
+        below _ _ _ (at-if1 .if1 .left) (after-first-pair .first-pair .ensures .0 .1) (c .with-bit2 .ensures .1),
+      ),
       λ j. pair-next (one-above _ (at-if1 .if1 .left)) (after-first-digit .first-digit .ensures j) refl (after-get .get .ensures) (after-get2 .get2 .ensures)
           (after-get3 .get3 .ensures) (after-side .side .ensures)
-          (after-side2 .side2 .ensures) (after-block .block .ensures) (after-first-pair .first-pair .ensures .1 j) (after-first-pair .first-pair .ensures .0 .0)
-          (after-first-pair .first-pair .ensures .0 .1) (c .before .with-bit .ensures .0) (c .with-bit2 .ensures .0),
+          (after-side2 .side2 .ensures) (after-block .block .ensures) (after-first-pair .first-pair .ensures .1 j)
+          (c .before .with-bit .ensures .0) (c .with-bit2 .ensures .0),
     )))

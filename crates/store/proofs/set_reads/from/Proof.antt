@@ -1,5 +1,5 @@
--- `from` is the rank after the last packet, or 0 where none was given.
-use mathlib.Core.Path.{_≡_, refl}
+-- `from` is the rank after the last packet's, or 0 where none was given.
+use mathlib.Core.Path.{_≡_, refl, ap, _∙_}
 use Prim.Native.Nat.{ℕ, _+_}
 use borrow.Author.Needs.{needs}
 use borrow.Author.Tests.{eq-eqb, ne-eqb}
@@ -18,7 +18,7 @@ returns : tie.Need-returns
 returns c = none-given _ _ (c .if1 .taken)
 
 returns-2 : tie.Need-returns-2
-returns-2 c = one-given _ _ (c .before .if1 .left)
+returns-2 c = ap (λ x. x + 1) (c .reversed .ensures) ∙ one-given _ _ (c .before .if1 .left)
 
 pub from-spec : {M : Type 1} → statement M
-from-spec = tie.close (tie.spec returns (λ c. search needs) (λ c. search needs) returns-2)
+from-spec = tie.close (tie.spec returns (λ c κs. search needs) (λ c. search needs) (λ c. search needs) returns-2)

@@ -11,18 +11,19 @@ returns c =
     let entry = c .before .before .before .before in
     end-met _ (entry .args .c) (c .if1 .taken)
 
-cast-x : tie.Need-cast-x
-cast-x c =
+cast-rank : tie.Need-cast-rank
+cast-rank c =
     let entry = c .before .before .before .before .before .before .before .before in
     let t = pow-less _ 32 (entry .pre) in record { fits = omega (arith, c .before .power .ensures, c .if2 .taken) }
 
 returns-2 : tie.Need-returns-2
 returns-2 c =
-    let entry = c .before .before .before .before .before .before .before .before in
-    let after-from = c .before .before .before in
+    let at-if2 = c .before in
+    let entry = at-if2 .before .before .before .before .before .before .before .before in
+    let after-from = at-if2 .before .before .before in
     let at-if1 = after-from .before in
-    found _ (entry .args .c) (at-if1 .if1 .left) _ (c .before .before .first-from .ensures .1) (after-from .from .ensures)
-    (omega (arith, c .before .power .ensures, c .if2 .taken))
+    found _ (entry .args .c) (at-if1 .if1 .left) _ (at-if2 .before .before .first-from .ensures .1) (after-from .from .ensures)
+    (omega (arith, at-if2 .before .power .ensures, at-if2 .if2 .taken)) (c .reversed .ensures)
 
 returns-3 : tie.Need-returns-3
 returns-3 c =
@@ -40,6 +41,7 @@ next-member-spec =
     (λ c κs. search needs)
     (λ c κs. search needs)
     (λ c κs. search needs)
-    cast-x
+    cast-rank
+    (λ c κs. search needs)
     returns-2
     returns-3)
