@@ -207,7 +207,7 @@ two-fields =
     ∷ decides (path-read (HasPath 10 15 11)) false
     ∷ []
 
--- 02, M-100: the pairs (01, 00) and (00, 10) alone, as handle 10, of which the latter is first
+-- 02, M-100: the pairs (01, 00) and (00, 10) alone, field 0 first, as handle 10, of which the latter is first
 abbrev pub first-pairs : List Expected
 first-pairs =
     yields (new-store 2) 7
