@@ -24,11 +24,11 @@ pub fn reversed(level: u8, n: u32) -> u32
 {
     let mut r: u32 = 0;
     let mut rest = n;
-    let mut l = level;
-    while l > 0 {
+    let mut i: u8 = 0;
+    while i < level {
         r = 2 * r + rest % 2;
         rest = rest / 2;
-        l -= 1;
+        i += 1;
     }
     r
 }

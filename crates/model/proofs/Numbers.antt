@@ -49,8 +49,9 @@ field-is-bit zero f n i = absurd (omega arith)
 field-is-bit (suc l) zero n i = omega arith
 field-is-bit (suc l) (suc f) n i = field-is-bit l f (n / 2) (omega arith) ∙ ap (λ m. m % 2) (halved n f)
 
--- THE PLACE IN FIELD ORDER of the packet with the number n is the number of the packet at the place n: both have the bits of n in the other order
-rank-last : (l n : ℕ) → rank (packet (suc l) n) ≡ n / 2 ^ l % 2 + 2 * rank (packet l n)
+-- THE PLACE IN FIELD ORDER of the packet with the number n is the number of the packet at the place n: both have the bits of n in the other order. The last
+-- field, the highest bit of the number, is the lowest of the place
+pub rank-last : (l n : ℕ) → rank (packet (suc l) n) ≡ n / 2 ^ l % 2 + 2 * rank (packet l n)
 unfolding packet rank
 rank-last zero n = omega arith
 rank-last (suc l) n =

@@ -15,8 +15,7 @@ Packet l p = Digits set l p
 
 -- PACKET NUMBERS. 01: "A packet of k fields is a number below 2^k"; 02, M-105: "field 0 is the least significant bit of a packet number".
 -- `packet l n` is the packet of l fields with the number n, `number` its inverse. The order of packets is no matter of their numbers and
--- goes by FieldOrder. Beside the laws in proofs/Numbers, `packet` is unfolded for code that goes along a number's bits: in proofs/Walking
--- of `call_rules`, for `relates`, and for `reversed` of `first_paths`.
+-- goes by FieldOrder. Beside the laws in proofs/Numbers, proofs/Walking of `call_rules` unfolds `packet`, for the loop of `relates`.
 unfoldable pub packet : ℕ → ℕ → List ℕ
 packet zero n = []
 packet (suc l) n = n % 2 ∷ packet l (n / 2)

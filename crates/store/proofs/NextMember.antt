@@ -45,6 +45,7 @@ module _ (l : ℕ) (c : Cursor) where
     to-come : LeastRank l (λ p. to-come? S l c p ≡ true) r
     to-come = least-iff (λ p P. let e = and-iff (member? S (c .handle) p) _ (one-iff (walk set S (c .handle) p)) (after-last p P) in (e .1, e .0)) A
 
+    -- the packet of rank r has the number `rank (packet l r)`: `number-ranked`
     the-member : r < 2 ^ l → as-member (first-packet l (to-come? S l c)) ≡ Member (rank (packet l r))
     the-member i = ap as-member (first-by-rank to-come i) ∙ ap Member (number-ranked l r)
 

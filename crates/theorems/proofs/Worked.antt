@@ -43,7 +43,7 @@ use Rattle.theorems.specs.AllCalls.{AnyCall, call, answered, any-step, p
 use Rattle.theorems.specs.Lists.{in-turn, plain-steps}
 use Rattle.theorems.specs.PlainStore.{asked, on-lists, plain-step, plain-policy-step, begun}
 use Rattle.theorems.specs.Worked.{Expected, yields, refuses, RowsRight, TableRight, one-field, no-field, faults, lister-lines, mixed-texts}
-use Rattle.theorems.specs.Worked.{two-fields, first-pairs, members-in-turn, low-end, added, none-added, Worked}
+use Rattle.theorems.specs.Worked.{two-fields, first-pairs, members-in-turn, packet-numbers, added, none-added, Worked}
 use Rattle.theorems.proofs.AllCalls.{any-right}
 use Rattle.theorems.proofs.Lists.{lists-right}
 use Rattle.theorems.proofs.NewStore.{new-right}
@@ -76,13 +76,13 @@ unfolding in-turn plain-any-step plain-step asked on-lists finishes guard also o
     run get mk-store mk-handle place having agrees constant identity-at-depth each-field test raise new op2 node2
 members-plain = refl
 
-low-end-plain : Plainly 2 2 8 (without-new low-end)
+numbers-plain : Plainly 2 2 8 (without-new packet-numbers)
 unfolding in-turn plain-any-step effect plain-step plain-policy-step asked on-lists finishes text-verdict of-reading policy-program
     guard also of-one level-of packet
     run get mk-store mk-handle place having agrees constant identity-at-depth each-field test raise assign new
     x-begins? x-whole? reading reading-of rules first field-number no-field? test? open-after clean-inside? clean? offends? reads scan final byte-step onward
     mid-step mid-go after-name close join-seq join-plus join-mix join-term sum-before mix-of negs nesting leaf tree-of tree
-low-end-plain = refl
+numbers-plain = refl
 
 texts-plain : Plainly 1 1 3 (without-new faults) × Plainly 1 1 5 (without-new lister-lines)
     × RowsPlainly (λ r. r) 1 2 6 (without-new added) × RowsPlainly (λ r. r) 1 1 4 (without-new none-added)
@@ -168,5 +168,5 @@ worked = record {
   ordered = begins 2 146 21 (without-new two-fields) refl (calls-plain .2);
   first = begins 2 38 7 (without-new first-pairs) refl pairs-plain;
   members = begins 2 26 7 (without-new members-in-turn) refl members-plain;
-  numbered = begins 2 34 5 (without-new low-end) refl low-end-plain;
+  numbered = begins 2 34 5 (without-new packet-numbers) refl numbers-plain;
 }

@@ -258,8 +258,8 @@ members-in-turn =
     ∷ []
 
 -- 02, M-105: "For k = 2, `x0=1` passes 1 and 3"
-abbrev pub low-end : List Expected
-low-end =
+abbrev pub packet-numbers : List Expected
+packet-numbers =
     yields (new-store 2) 7
     ∷ text-yields (120 ∷ 48 ∷ 61 ∷ 49 ∷ []) 8
     ∷ decides (relation-read (RR.Relates 8 0 0)) false
@@ -316,6 +316,6 @@ pub record Worked : Type 0 where
   pub ordered : TableRight 146 21 two-fields
   pub first : TableRight 38 7 first-pairs
   pub members : TableRight 26 7 members-in-turn
-  pub numbered : TableRight 34 5 low-end
+  pub numbered : TableRight 34 5 packet-numbers
   pub added-nodes : CountsRight 26 5 added
   pub used-up : CountsRight 18 3 none-added

@@ -1,57 +1,56 @@
--- `reversed` takes the number's bits from the lowest on, each below those before it: with the l fields that are left they are the packet's rank.
-use mathlib.Core.Path.{_≡_, sym, ap, _∙_, subst}
-use Prim.Native.Nat.{ℕ, zero, suc, _+_, _-_, _*_, _/_, _%_, _^_, _<_, _≤_}
+-- `reversed` takes the number's bits from the lowest on, each below those before it: after i of them it has the rank of the number's packet of i fields.
+use mathlib.Core.Path.{_≡_, refl, sym, ap, _∙_}
+use Prim.Native.Nat.{ℕ, suc, _+_, _-_, _*_, _/_, _%_, _^_, _<_, _≤_}
 use native.Mathlib.Omega.{arith}
-use native.Mathlib.Nat.{add-mul, le-mul-of-pos-right, mul-assoc, pow-suc, zero-mul}
+use native.Mathlib.Nat.{div-div-eq-div-mul}
 use borrow.Author.Needs.{needs}
 use Rattle.model.specs.FieldOrder.{rank}
 use Rattle.model.specs.Packets.{packet}
 use Rattle.model.proofs.FieldOrder.{rank-below}
-use Rattle.model.proofs.Numbers.{packet-is}
-use Rattle.model.proofs.Powers.{pow-pos, pow-less}
-use Rattle.model.proofs.Ranks.{rank-more}
+use Rattle.model.proofs.Numbers.{packet-is, rank-last}
+use Rattle.model.proofs.Powers.{pow-next, pow-less}
 use Rattle.first_paths.proofs.members.reversed.Statement.{statement}
 use Rattle.first_paths.proofs.members.reversed.Tie as tie
 
--- the rank of r's bits and then the l fields of m
-abbrev joined : ℕ → ℕ → ℕ → ℕ
-joined l r m = r * 2 ^ l + rank (packet l m)
-
 abbrev Inv-loop : tie.InvT-loop
-Inv-loop level n r₀ m₀ l₀ r m l = joined l r m ≡ rank (packet level n)
+Inv-loop level n r₀ m₀ i₀ r m i = (i ≤ level) × (r ≡ rank (packet i n)) × (m ≡ n / 2 ^ i)
 
 abbrev μ-loop : tie.MeasureT-loop
-μ-loop level n r₀ m₀ l₀ r m l = l
+μ-loop level n r₀ m₀ i₀ r m i = level - i
 
-one-on : (l r m : ℕ) → 0 < l → joined (l - 1) (2 * r + m % 2) (m / 2) ≡ joined l r m
-unfolding packet
-one-on zero r m h = absurd (omega arith)
-one-on (suc l) r m h =
-    let x = 2 ^ l in
-    let e : suc l - 1 ≡ l = omega arith in
-    let f : (2 * r + m % 2) * x ≡ 2 * (r * x) + m % 2 * x = add-mul (2 * r) (m % 2) x ∙ ap (λ y. y + m % 2 * x) (mul-assoc 2 r x) in
-    let g : r * 2 ^ suc l ≡ r * x * 2 = ap (λ y. r * y) (pow-suc 2 l) ∙ sym (mul-assoc r x 2) in
-    ap (λ l. joined l (2 * r + m % 2) (m / 2)) e ∙ omega (arith, f, g, rank-more (m % 2) (packet-is l (m / 2)))
-
--- the bits that were taken are a number below 2^32
-small : (level n l r m : ℕ) → level ≤ 32 → joined l r m ≡ rank (packet level n) → r < 4294967296
-small level n l r m h e =
-    let t : 2 ^ level ≤ 4294967296 = pow-less level 32 h in
-    omega (arith, le-mul-of-pos-right r (pow-pos l), rank-below (packet-is level n), e)
-
-none-taken : (l m : ℕ) → joined l 0 m ≡ rank (packet l m)
-none-taken l m = omega (arith, zero-mul (2 ^ l))
-
-none-left : (l r m : ℕ) → l ≡ 0 → r ≡ joined l r m
+starts : (n : ℕ) → (0 ≡ rank (packet 0 n)) × (n ≡ n / 2 ^ 0)
 unfolding packet rank
-none-left l r m e = subst (λ l. r ≡ joined l r m) (sym e) (let f : r ≡ r * 1 + 0 = omega arith in f)
+starts n = (refl, omega arith)
 
-again : (c : tie.In-loop Inv-loop μ-loop) → (let v = c .before .loop in joined (v .l - 1) (2 * v .r + v .rest % 2) (v .rest / 2)
-    ≡ rank (packet (c .before .before .args .level) (c .before .before .args .n)))
-again c = let v = c .before .loop in one-on (v .l) (v .r) (v .rest) (c .loop-test .taken) ∙ v .inv
+-- one field more
+next-rank : (n i r m : ℕ) → r ≡ rank (packet i n) → m ≡ n / 2 ^ i → 2 * r + m % 2 ≡ rank (packet (i + 1) n)
+next-rank n i r m e f = let g : i + 1 ≡ suc i = omega arith in rw g (omega (arith, rank-last i n, e, ap (λ x. x % 2) f))
+
+next-rest : (n i m : ℕ) → m ≡ n / 2 ^ i → m / 2 ≡ n / 2 ^ (i + 1)
+next-rest n i m f = ap (λ x. x / 2) f ∙ div-div-eq-div-mul n (2 ^ i) 2 ∙ ap (λ x. n / x) (sym (pow-next i))
+
+-- a rank of at most 32 fields is below 2^32
+small : (n i : ℕ) → i ≤ 32 → rank (packet i n) < 4294967296
+small n i h = omega (arith, rank-below (packet-is i n), pow-less i 32 h)
 
 fits : (c : tie.In-loop Inv-loop μ-loop) → (let v = c .before .loop in 2 * v .r + v .rest % 2 < 4294967296)
-fits c = small _ _ _ _ _ (c .before .before .pre) (again c)
+fits c =
+    let v = c .before .loop in
+    let entry = c .before .before in
+    let n = entry .args .n in
+    omega (arith, next-rank n _ _ _ (v .inv .1) (v .inv .2), small n (v .i + 1) (omega (arith, c .loop-test .taken, entry .pre)))
+
+loop-again : tie.Need-loop-again Inv-loop μ-loop
+loop-again c =
+    let v = c .before .loop in
+    let n = c .before .before .args .n in
+    (omega (arith, c .loop-test .taken), next-rank n _ _ _ (v .inv .1) (v .inv .2), next-rest n _ _ (v .inv .2))
+
+returns : tie.Need-returns Inv-loop μ-loop
+returns c =
+    let v = c .before .loop in
+    let e : v .i ≡ c .before .before .args .level = omega (arith, c .loop-test .left, v .inv .0) in
+    v .inv .1 ∙ ap (λ l. rank (packet l (c .before .before .args .n))) e
 
 pub reversed-spec : {M : Type 1} → statement M
 reversed-spec =
@@ -59,10 +58,10 @@ reversed-spec =
     (tie.spec
     Inv-loop
     μ-loop
-    (λ c. none-taken _ _)
+    (λ c. let s = starts (c .args .n) in (omega arith, s .0, s .1))
     (λ c. omega (arith, fits c))
     (λ c. omega (arith, fits c))
     (λ c. search needs)
     (λ c. search needs)
-    again
-    (λ c. let e : c .before .loop .l ≡ 0 = omega arith in none-left _ _ (c .before .loop .rest) e ∙ c .before .loop .inv))
+    loop-again
+    returns)
