@@ -6,7 +6,7 @@ ghost use Rattle.call_rules.specs.Added.{held_in, less};
 use store_check::head::*;
 
 // A number of relation nodes, and one of set nodes.
-#[derive(Drop)]
+#[derive(Clone, Copy)]
 pub struct NodeCounts {
     pub relations: u32,
     pub sets: u32,

@@ -7,7 +7,7 @@ pub mod finish;
 pub mod operands;
 
 // Why a call is declined. The last is of a policy's text alone.
-#[derive(Drop)]
+#[derive(Clone, Copy)]
 pub enum Refusal {
     NotStore,
     NotHeld,
@@ -19,7 +19,7 @@ pub enum Refusal {
 }
 
 // What a call answers.
-#[derive(Drop)]
+#[derive(Clone, Copy)]
 pub enum Answer {
     Handle(u32),
     Truth(bool),
@@ -32,14 +32,14 @@ pub enum Answer {
 }
 
 // What a call that may add nodes returns: its answer, and the nodes that it added.
-#[derive(Drop)]
+#[derive(Clone, Copy)]
 pub struct Reply {
     pub answer: Answer,
     pub added: added::NodeCounts,
 }
 
 // Whether a call is declined: the level of its operands, or why.
-#[derive(Drop)]
+#[derive(Clone, Copy)]
 pub enum Check {
     Level(u32),
     No(Refusal),

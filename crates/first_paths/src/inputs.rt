@@ -24,7 +24,7 @@ const NO_NUMBER: u32 = memory::memo::OPERATIONS - memory::memo::FIRST_INPUT;
 const NO_PARTS: u32 = UNIT / PARTS;
 
 // What shortcuts know of the first input: its rank, that it is the first packet of the input set, or nothing.
-#[derive(Drop)]
+#[derive(Clone, Copy)]
 enum InputShortcut {
     Rank(u32),
     Member,

@@ -11,7 +11,7 @@ pub mod inputs;
 pub mod members;
 
 // A pair of packets, by their numbers.
-#[derive(Drop)]
+#[derive(Clone, Copy)]
 pub struct Pair {
     pub input: u32,
     pub output: u32,

@@ -9,7 +9,7 @@ use crate::turns::Tally;
 const MOST: usize = 256;
 
 // The turns that a call has, none where it is declined, the number of that refusal, or 0, and the tally at its first turn.
-#[derive(Drop)]
+#[derive(Clone, Copy)]
 pub struct Begun {
     pub turns: usize,
     pub refusal: u32,

@@ -11,7 +11,7 @@ use store::set_calls::SetCall;
 use store::set_reads::SetRead;
 
 // What an operand is: nothing, a set, a relation, or a number, which is a field, a packet or a value.
-#[derive(Drop)]
+#[derive(Clone, Copy)]
 pub enum Slot {
     Spare,
     Set,
@@ -19,7 +19,7 @@ pub enum Slot {
     Number,
 }
 
-#[derive(Drop)]
+#[derive(Clone, Copy)]
 pub struct Slots {
     pub a: Slot,
     pub b: Slot,
@@ -27,7 +27,7 @@ pub struct Slots {
 }
 
 // A call of `store` with its arguments.
-#[derive(Drop)]
+#[derive(Clone, Copy)]
 pub enum StoreCall {
     AddsSet(SetCall),
     ReadsSet(SetRead),

@@ -11,21 +11,21 @@ use crate::operations::{Slot, StoreCall};
 use crate::{Job, Operand};
 
 // What an operand stands for.
-#[derive(Drop)]
+#[derive(Clone, Copy)]
 pub enum Value {
     Is(u32),
     Missing,
 }
 
 // What a job asks for: a call, or to be refused with a number.
-#[derive(Drop)]
+#[derive(Clone, Copy)]
 pub enum Asked {
     Call(StoreCall),
     Refusal(u32),
 }
 
 // The places in the list of the jobs that a job's operands name.
-#[derive(Drop)]
+#[derive(Clone, Copy)]
 pub struct Places {
     pub a: usize,
     pub b: usize,
@@ -33,14 +33,14 @@ pub struct Places {
 }
 
 // How many more jobs may be run, and the nodes that the memories hold.
-#[derive(Drop)]
+#[derive(Clone, Copy)]
 pub struct Tally {
     pub left: u32,
     pub held: call_rules::added::NodeCounts,
 }
 
 // A job after its turn.
-#[derive(Drop)]
+#[derive(Clone, Copy)]
 pub struct Turned {
     pub job: Job,
     pub tally: Tally,

@@ -3,7 +3,7 @@ ghost use Rattle.std.specs.Prelude.{◌≡◌};
 ghost use Rattle.listing.specs.Listing.{at_most_32, one_digit, two_digits, width_of};
 
 // k, or no number from 0 to 32.
-#[derive(Drop)]
+#[derive(Clone, Copy)]
 pub(crate) enum Width {
     Is(u32),
     Bad,

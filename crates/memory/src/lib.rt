@@ -9,7 +9,7 @@ pub mod property_words;
 pub mod relation_node;
 
 // The state of a run: whether all nodes so far fitted, the count of nodes, and the handle that the last step gave.
-#[derive(Drop)]
+#[derive(Clone, Copy)]
 pub struct RunState {
     pub n: usize,
     pub h: u32,
@@ -17,7 +17,7 @@ pub struct RunState {
 }
 
 // What the Rust's property bits say of a handle, and its level.
-#[derive(Drop)]
+#[derive(Clone, Copy)]
 pub struct Properties {
     pub empty: bool,
     pub universal: bool,
@@ -26,7 +26,7 @@ pub struct Properties {
 }
 
 // What shortcuts or the memo know: the answer, or the operands that the operation is left with.
-#[derive(Drop)]
+#[derive(Clone, Copy)]
 pub enum Lookup {
     Answer(u32),
     Operands(u32, u32),

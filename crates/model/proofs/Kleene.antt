@@ -17,11 +17,11 @@ pub data Way (l : ℕ) (R : Rel) (q : List ℕ) : List ℕ → Type 0 where
 abbrev pub Ways : ℕ → Rel → Rel
 Ways l R p q = Way l R q p
 
-pub join_ways : {l : ℕ} {R : Rel} {p q r : List ℕ} → Ways l R p q → Ways l R q r → Ways l R p r
+pub join_ways : {l : ℕ} {R : Rel} {q p r : List ℕ} → Ways l R p q → Ways l R q r → Ways l R p r
 join_ways stop t = t
 join_ways (step M r s) t = step M r (join_ways s t)
 
-lift : {l l' : ℕ} {R R' : Rel} (f : List ℕ → List ℕ) → ((p q : List ℕ) → Packet l q → R p q → Ways l' R' (f p) (f q)) → {p q : List ℕ} → Ways l R p q
+lift : {l l' : ℕ} {R R' : Rel} (f : List ℕ → List ℕ) → ((p q : List ℕ) → Packet l q → R p q → Ways l' R' (f p) (f q)) → {q p : List ℕ} → Ways l R p q
     → Ways l' R' (f p) (f q)
 lift f g stop = stop
 lift f g (step {p = p} {m = m} M r s) = join_ways (g p m M r) (lift f g s)
@@ -76,7 +76,7 @@ module _ (l : ℕ) (R : Rel) where
       (on-bits (Before 1 0) c100 (λ p n q P N r s. inr (s.0, s.1, c100 p n s.0 P N r s.2, s.3)))
       (on-bits (Before 1 1) c110 c111))
 
-  into : {p q : List ℕ} → Packet (suc l) p → Packet (suc l) q → Ways (suc l) R p q → Matrix way_blocks p q
+  into : {q p : List ℕ} → Packet (suc l) p → Packet (suc l) q → Ways (suc l) R p q → Matrix way_blocks p q
   into P Q stop = nothing P
     where
       nothing : {p : List ℕ} → Packet (suc l) p → Matrix way_blocks p p

@@ -96,7 +96,7 @@ only rel S M P a b rel = a
 module _ (K : Kind) (x : List ℕ) (S : Store) where
   pub mk_nodes : nodes K (mk_store K x S) ≡ having (stored K x) (nodes K S)
   unfolding mk_store
-  mk_nodes = elim K [ set ↦ refl | rel ↦ refl ]
+  mk_nodes = elim K as (λ J. nodes J (with_nodes J (having (stored J x) (nodes J S)) S) ≡ having (stored J x) (nodes J S)) [ set ↦ refl | rel ↦ refl ]
 
   pub mk_ext : Extends S (mk_store K x S)
   unfolding mk_store

@@ -43,15 +43,15 @@ module _ {k : ℕ} where
       dropped : (p : List ℕ) → drop 1 (drop n p) ≡ drop (suc n) p
       dropped p = drop-drop 1 n p ∙ ap (λ m. drop m p) (add-one n)
 
-  pub ifelse_does : {P Q : Sem} {S : Store} (l v t e : ℕ) → WellFormed k S → l ≤ k → v < l → Den set l P S t → Den set l Q S e
+  pub ifelse_does : (l v t e : ℕ) {P Q : Sem} {S : Store} → WellFormed k S → l ≤ k → v < l → Den set l P S t → Den set l Q S e
       → Does k S (ifelse l v t e) (Den set l (Choice v P Q))
   unfolding ifelse
   ifelse_does zero v t e F i h A B = absurd (omega arith)
-  ifelse_does {P} {Q} (suc l) zero t e F i h A B = look_does set t (held_within l A.held) (look_does set e (held_within l B.held)
+  ifelse_does (suc l) zero t e {P} {Q} F i h A B = look_does set t (held_within l A.held) (look_does set e (held_within l B.held)
       (mk_set l _ _ (Choice 0 P Q) F i (den_child B 0 (omega arith)) (den_child A 1 (omega arith))
       (λ p. (λ x. inr (refl, x), elim [ inl x ↦ absurd (omega (arith, x.0)) | inr x ↦ x.1 ]))
       (λ p. (λ x. inl (refl, x), elim [ inl x ↦ x.1 | inr x ↦ absurd (omega (arith, x.0)) ]))))
-  ifelse_does {P} {Q} (suc l) (suc v) t e F i h A B = look_does set t (held_within l A.held) (look_does set e (held_within l B.held)
+  ifelse_does (suc l) (suc v) t e {P} {Q} F i h A B = look_does set t (held_within l A.held) (look_does set e (held_within l B.held)
       (bind_does (ifelse_does l v _ _ F (omega arith) (omega arith) (den_child A 0 (omega arith)) (den_child B 0 (omega arith))) λ S₁ x E₁ F₁ C.
       bind_does (ifelse_does l v _ _ F₁ (omega arith) (omega arith) (den_ext E₁ (den_child A 1 (omega arith))) (den_ext E₁ (den_child B 1 (omega arith))))
       λ S₂ y E₂ F₂ D.

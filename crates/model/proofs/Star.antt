@@ -49,15 +49,15 @@ module _ {k : ℕ} where
       (λ t₂. ask_does (has is_universal rel l x) A.held (λ t. ret_does x F (relates_iff (λ p q P Q. (λ r. step Q r stop, near (inr t) P Q)) A))
       (λ t₃. bit_above rel l x S A.held t₁ t₃ G)))
     where
-      none_far : {p q : List ℕ} → T (empty rel l x S) → Packet l p → Ways l R p q → p ≡ q
+      none_far : {q p : List ℕ} → T (empty rel l x S) → Packet l p → Ways l R p q → p ≡ q
       none_far t P stop = refl
       none_far t P (step M r s) = absurd (rel_empty A t _ _ P M r)
 
-      still : {p q : List ℕ} → T (ident l x S) → Packet l p → Ways l R p q → p ≡ q
+      still : {q p : List ℕ} → T (ident l x S) → Packet l p → Ways l R p q → p ≡ q
       still t P stop = refl
       still t P (step M r s) = (rel_ident A t _ _ P M).1 r ∙ still t M s
 
-      near : {p q : List ℕ} → T (ident l x S) ⊎ T (full rel l x S) → Packet l p → Packet l q → Ways l R p q → R p q
+      near : {q p : List ℕ} → T (ident l x S) ⊎ T (full rel l x S) → Packet l p → Packet l q → Ways l R p q → R p q
       near (inl t) P Q s = (rel_ident A t _ _ P Q).0 (still t P s)
       near (inr t) P Q s = rel_full A t _ _ P Q
 

@@ -105,7 +105,7 @@ fn move_on(a: call_rules::Answer, c: Cursor) -> Cursor
 }
 
 // The record after a step, and the step's answer packed.
-#[derive(Drop)]
+#[derive(Clone, Copy)]
 pub struct Stepped {
     pub cursor: Cursor,
     pub answer: u64,

@@ -20,7 +20,7 @@ pub fn pack(a: call_rules::Answer) -> u64
 
 // An answer with the relation nodes and the set nodes that the call added, as C takes it.
 #[repr(C)]
-#[derive(Drop)]
+#[derive(Clone, Copy)]
 pub struct AddedReply {
     pub answer: u64,
     pub relations: u32,
@@ -49,7 +49,7 @@ pub fn pack_reply(r: call_rules::Reply) -> AddedReply
 
 // An answer with the pair that it has, as C takes it.
 #[repr(C)]
-#[derive(Drop)]
+#[derive(Clone, Copy)]
 pub struct PairReply {
     pub answer: u64,
     pub input: u32,

@@ -17,7 +17,7 @@ use store_check::head::*;
 const MOST_BYTES: usize = 4096;
 
 // What is wrong at a place in a text.
-#[derive(Drop)]
+#[derive(Clone, Copy)]
 pub enum Fault {
     NotPolicy,
     NotPredicate,
@@ -26,21 +26,21 @@ pub enum Fault {
 }
 
 // Why a policy is declined: a fault and its offset in the text, or the store's own refusal.
-#[derive(Drop)]
+#[derive(Clone, Copy)]
 pub enum PolicyRefusal {
     At(Fault, usize),
     Store(call_rules::Refusal),
 }
 
 // What a policy call answers.
-#[derive(Drop)]
+#[derive(Clone, Copy)]
 pub enum PolicyAnswer {
     Handle(u32),
     Declined(PolicyRefusal),
 }
 
 // What a policy call returns: its answer, and the nodes that it added.
-#[derive(Drop)]
+#[derive(Clone, Copy)]
 pub struct PolicyReply {
     pub answer: PolicyAnswer,
     pub added: call_rules::added::NodeCounts,

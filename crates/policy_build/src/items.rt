@@ -3,7 +3,7 @@ ghost use Rattle.std.specs.Prelude.{◌≡◌, ◌≤◌, ◌<◌, eqb, length, 
 ghost use Rattle.policy_build.specs.Items.{Past, ReadsNumber};
 
 // A field's number and the offset after it.
-#[derive(Drop)]
+#[derive(Clone, Copy)]
 pub struct Number {
     pub value: u8,
     pub end: usize,

@@ -13,7 +13,7 @@ use memory::RunState;
 mod items;
 
 // What was built of a part of the text: the state of the run, with the part's handle, and the offset after the part.
-#[derive(Drop)]
+#[derive(Clone, Copy)]
 pub struct Built {
     pub made: RunState,
     pub end: usize,

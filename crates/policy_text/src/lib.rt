@@ -9,7 +9,7 @@ mod negations;
 mod syntax;
 
 // What a text reads as for k fields: a policy that keeps the rules, or the offset of the refusal 7, 9, 5 or 8.
-#[derive(Drop)]
+#[derive(Clone, Copy)]
 pub enum Reading {
     Policy,
     NotPolicy(usize),
@@ -19,7 +19,7 @@ pub enum Reading {
 }
 
 // The first place that a search finds.
-#[derive(Drop)]
+#[derive(Clone, Copy)]
 pub(crate) enum Found {
     Nowhere,
     At(usize),

@@ -6,7 +6,7 @@ ghost use Rattle.policy_text.specs.Posts.{AtomPost, RelationPost, JoinPost, Star
 ghost use Rattle.policy_text.specs.Posts.{continues_term, continues_sum, read_of};
 
 // What reading finds: the offset where it ended, or that of a byte that cannot stand there (7), or of a `(` or `!` inside 32 others (9).
-#[derive(Drop)]
+#[derive(Clone, Copy)]
 pub(crate) enum Read {
     End(usize),
     Bad(usize),

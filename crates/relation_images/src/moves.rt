@@ -10,7 +10,7 @@ ghost use Rattle.relation_images.specs.Moves.{ImageReduces};
 use memory::RunState;
 
 // What shortcuts know of an image: the answer, the empty or full set, that of the full set, or nothing.
-#[derive(Drop)]
+#[derive(Clone, Copy)]
 enum ImageShortcut {
     Answer(u32),
     Zero,

@@ -13,7 +13,7 @@ use memory::RunState;
 const NO_NUMBER: u32 = memory::memo::FIRST_INPUT - memory::memo::HAS_PATH;
 
 // What shortcuts know of a path: the answer, that the two sets are to share a packet, that any output will do, or nothing.
-#[derive(Drop)]
+#[derive(Clone, Copy)]
 enum PathShortcut {
     Answer(u32),
     Meet,

@@ -14,7 +14,7 @@ pub mod fields;
 pub mod shortcuts;
 
 // A node: four children, the first digit for the input's field and the second for the output's.
-#[derive(Drop)]
+#[derive(Clone, Copy)]
 pub struct SPPnode {
     pub x00: u32,
     pub x01: u32,
@@ -23,7 +23,7 @@ pub struct SPPnode {
 }
 
 // What shortcuts know where another operation may answer: the answer, the operand of that operation, or the operands to recurse on.
-#[derive(Drop)]
+#[derive(Clone, Copy)]
 pub enum Shortcut {
     Answer(u32),
     Delegate(u32),

@@ -4,7 +4,7 @@ ghost use Rattle.replay.specs.Showing.{Shows};
 use libc::STDOUT_FILENO;
 
 // What is written of an answer: a letter, and the first `count` of these numbers.
-#[derive(Drop)]
+#[derive(Clone, Copy)]
 pub struct Shown {
     pub letter: u8,
     pub count: usize,

@@ -12,7 +12,7 @@ use store::set_calls::SetCall;
 use store::set_reads::SetRead;
 
 // A call with its arguments, or none.
-#[derive(Drop)]
+#[derive(Clone, Copy)]
 pub enum Call {
     New(u32, u32, u32),
     Store(StoreCall),

@@ -3,14 +3,14 @@ ghost use Rattle.std.specs.Prelude.{◌≤◌, length};
 ghost use Rattle.replay.specs.Numbers.{ReadsNumber, ReadsRow};
 
 // A number and where it ends, or none.
-#[derive(Drop)]
+#[derive(Clone, Copy)]
 pub enum Number {
     Is(u32, usize),
     Nothing,
 }
 
 // The numbers of a line, at most four, those that are not there 0; not good where something else follows the name.
-#[derive(Drop)]
+#[derive(Clone, Copy)]
 pub struct Row {
     pub good: bool,
     pub count: usize,

@@ -9,14 +9,14 @@ use jobs::operations::StoreCall;
 use store_check::head::*;
 
 // How many numbers of each memory are lent.
-#[derive(Drop)]
+#[derive(Clone, Copy)]
 pub struct Lent {
     pub relations: usize,
     pub sets: usize,
 }
 
 // Whether the replay takes another line, and how much is lent to it.
-#[derive(Drop)]
+#[derive(Clone, Copy)]
 pub enum Step {
     On(Lent),
     End,

@@ -17,7 +17,7 @@ use memory::RunState;
 pub mod fields;
 
 // A node: two children, one for this field being 0 and one for it being 1.
-#[derive(Drop)]
+#[derive(Clone, Copy)]
 pub struct SPnode {
     pub x0: u32,
     pub x1: u32,

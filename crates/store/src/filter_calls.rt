@@ -13,7 +13,7 @@ use memory::RunState;
 use store_check::head::*;
 
 // A call with its argument, a set, after spp.rs.
-#[derive(Drop)]
+#[derive(Clone, Copy)]
 pub enum FilterCall {
     Diagonal(u32),
     Ifwd(u32),

@@ -13,7 +13,7 @@ use memory::RunState;
 use store_check::head::*;
 
 // A call with its arguments, after spp.rs: `fwd` and `bwd` of a relation, `push` of a set through a relation, `pull` of a relation and a set.
-#[derive(Drop)]
+#[derive(Clone, Copy)]
 pub enum ImageCall {
     Fwd(u32),
     Bwd(u32),

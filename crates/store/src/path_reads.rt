@@ -14,7 +14,7 @@ ghost use Rattle.call_rules.specs.Checking.{ChecksBoth, AnsweredOn, CheckedStore
 use store_check::head::*;
 
 // A call with its arguments, after spp.rs: an input set and a relation, and for a path an output set.
-#[derive(Drop)]
+#[derive(Clone, Copy)]
 pub enum PathRead {
     HasImage(u32, u32),
     HasPath(u32, u32, u32),

@@ -14,7 +14,7 @@ use memory::RunState;
 use store_check::head::*;
 
 // A call with its arguments, after spp.rs: handles, and for `test` and `assign` a field first; a value is 0 or 1.
-#[derive(Drop)]
+#[derive(Clone, Copy)]
 pub enum RelationCall {
     Mk(u32, u32, u32, u32),
     Zero,

@@ -12,7 +12,7 @@ ghost use Rattle.store.specs.RelationChecking.{RelationReadSafe, WalksPair};
 use store_check::head::*;
 
 // A call with its arguments, after spp.rs; `relates` has a relation, an input and an output.
-#[derive(Drop)]
+#[derive(Clone, Copy)]
 pub enum RelationRead {
     Get(u32),
     IsZero(u32),

@@ -15,7 +15,7 @@ use store_check::head::*;
 // The place that a caller has reached in a set's members: the set's handle, the last member given, whether any was given and whether the end was met.
 // Of the two marks 0 is no and any other number yes.
 #[repr(C)]
-#[derive(Drop)]
+#[derive(Clone, Copy)]
 pub struct Cursor {
     pub handle: u32,
     pub last: u32,
@@ -24,7 +24,7 @@ pub struct Cursor {
 }
 
 // A call with its arguments, after sp.rs; `Next` is 02's.
-#[derive(Drop)]
+#[derive(Clone, Copy)]
 pub enum SetRead {
     Get(u32),
     Complement(u32),
