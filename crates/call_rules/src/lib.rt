@@ -1,4 +1,6 @@
 // The rules of a call on two memories: its answer, or a refusal in document 01's order, from its operands to the end of its run.
+#![tactic(auto)]
+
 ghost use Rattle.std.specs.Prelude.{◌≡◌};
 ghost use Rattle.call_rules.specs.Answers.{refusal_number};
 

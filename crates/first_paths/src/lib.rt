@@ -1,4 +1,6 @@
 // The first pair that a relation leads from a set to another. Ranks of first inputs, which the memo keeps, say which way it goes; nothing is added.
+#![tactic(auto)]
+
 ghost use Rattle.std.specs.Prelude.{◌≡◌, [], ◌∷◌, ℕ, ◌+◌, ◌*◌, ◌^◌, ◌<◌, ◌≤◌, get_or};
 ghost use Rattle.model.specs.Store.{set};
 ghost use Rattle.model.specs.FirstInputs.{output_bit, first_digit};

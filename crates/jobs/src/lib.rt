@@ -1,4 +1,6 @@
 // Lists of jobs: calls on a store that one call makes in their order, each with an answer in its record.
+#![tactic(auto)]
+
 pub mod begins;
 pub mod exported;
 pub mod operations;

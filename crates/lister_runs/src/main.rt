@@ -1,4 +1,6 @@
 // The lister on stored inputs: each file that an argument names, with its name before its listing.
+#![tactic(auto)]
+
 use libc::STDOUT_FILENO;
 
 // The listing of one file.

@@ -11,8 +11,7 @@ use lib.ListN.{get_or-eq_default, length, get_or, take, drop, length-append, len
 use lib.Seq.{get_or-set_same, get_or-set_other, set_out, take-set-le, paste}
 use lib.Dec.{ltb, leb, T, lt→ltb}
 use borrow.Author.Tests.{le-leb, lt-leb}
-use Rattle.model.specs.Packets.{none}
-use Rattle.model.specs.Programs.{same, mk, run}
+use Rattle.model.specs.Programs.{mk, run}
 use Rattle.model.specs.Safety.{Kids, Safe}
 use Rattle.model.specs.Store.{Kind, set, rel, arity, Nodes, Store, nodes, with_nodes, index, handle_of, with_sign, get, place, having, sign, stored}
 use Rattle.model.specs.Store.{mk_store, mk_handle}
@@ -23,7 +22,6 @@ use Rattle.model.proofs.Mk.{Had, had, mk_ext, handle_big, mk_formed}
 use Rattle.model.proofs.Reducing.{formed_more}
 use Rattle.model.proofs.Settle.{agrees_kept, settled_later}
 use Rattle.model.proofs.Signs.{index_handle, with_sign_zero}
-use Rattle.model.proofs.Tests.{empty}
 use Rattle.memory.specs.declared.RunState.{RunState}
 use Rattle.memory.specs.Performing.{run_state, Ready, ends, Runs, Joins, JoinsAs}
 use Rattle.memory.specs.Finding.{Search, Entered}

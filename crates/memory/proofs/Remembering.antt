@@ -9,7 +9,7 @@ use native.Mathlib.Nat.{add_assoc}
 use lib.ListN.{length, get_or, drop}
 use Rattle.model.specs.Programs.{Prog, ret, Ran, run}
 use Rattle.model.specs.Safety.{Safe, Settled, ReducesTo}
-use Rattle.model.specs.Store.{Kind, set, rel, arity, Store, index, handle_of}
+use Rattle.model.specs.Store.{Kind, set, rel, arity, Store, handle_of}
 use Rattle.model.proofs.Settle.{settled}
 use Rattle.memory.specs.declared.RunState.{RunState}
 use Rattle.memory.specs.declared.Lookup.{Lookup}

@@ -3,12 +3,12 @@ use mathlib.Core.Path.{◌≡◌, refl, sym, subst, ◌∙◌}
 use mathlib.Core.List.{List}
 use Prim.Native.Nat.{ℕ, zero, suc, ◌+◌, ◌*◌, ◌<◌, ◌≤◌}
 use native.Mathlib.Omega.{arith}
-use lib.ListN.{length, get_or, take, drop, replicate}
+use lib.ListN.{length, get_or, replicate}
 use Rattle.model.specs.Store.{Kind, arity, Store, nodes, handle_of}
 use Rattle.model.specs.WellFormed.{WellFormed}
 use Rattle.memory.specs.Rows.{row, plain}
 use Rattle.memory.specs.Finding.{IndexApart, Emptied}
-use Rattle.memory.specs.Working.{memo_size, words_at, last_in, Indexed, Known, Entry, Right, index_size}
+use Rattle.memory.specs.Working.{memo_size, words_at, last_in, Indexed, Known, Entry, Right}
 use Rattle.memory.proofs.Known.{known_nothing}
 use Rattle.memory.proofs.Parts.{words_same, entry_same}
 

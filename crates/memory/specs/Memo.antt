@@ -1,7 +1,7 @@
 -- The operations that the memo keeps, by number: each is the part of its program that is left where no shortcut answers.
 use Rattle.std.specs.Prelude.{ℕ, zero, suc, ◌-◌, ◌/◌, ◌%◌, eqb, leb}
 use Rattle.model.specs.Store.{set, rel, pick}
-use Rattle.model.specs.Programs.{Prog, panic, ret, bind, ◌>>=◌}
+use Rattle.model.specs.Programs.{Prog, panic, ret, ◌>>=◌}
 use Rattle.model.specs.Recursion.{node1, node2}
 use Rattle.model.specs.Operations.{constant, identity_at_depth, complement_op, union_op, intersect_op, xor_op, difference_op, test, assign}
 use Rattle.model.specs.Relations.{sequence_op, star_op, flip_op}

@@ -1,4 +1,6 @@
 // What sets and relations share: nodes of c numbers in a lent slice, and the working memory.
+#![tactic(auto)]
+
 ghost use Rattle.std.specs.Prelude.{◌≡◌, ℕ, ◌^◌, ◌<◌, ◌≤◌, length, replicate};
 ghost use Rattle.memory.specs.Rows.{places_of};
 

@@ -1,4 +1,6 @@
 // A new store in two lent memories.
+#![tactic(auto)]
+
 ghost use Rattle.std.specs.Prelude.{◌≡◌, ◌+◌, ◌*◌, ◌<◌, ◌≤◌, length};
 ghost use Rattle.model.specs.Store.{set, rel};
 ghost use Rattle.model.specs.NewNodes.{levels, level_handle, level_node, new_sets, new_relations};

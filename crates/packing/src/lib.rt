@@ -1,4 +1,6 @@
 // An answer as C takes it.
+#![tactic(auto)]
+
 ghost use Rattle.std.specs.Prelude.{◌≡◌};
 ghost use Rattle.packing.specs.Packed.{packed, packed_pair, with_added, packed_reply, filled_set, filled_relation};
 

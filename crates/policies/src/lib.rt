@@ -1,4 +1,6 @@
 // The public policy call: a NetKAT text read and built on two lent memories.
+#![tactic(auto)]
+
 ghost use Rattle.std.specs.Prelude.{◌≡◌, true};
 ghost use Rattle.model.specs.Store.{rel};
 ghost use Rattle.store_check.specs.Memory.{memories, fields};

@@ -1,4 +1,6 @@
 // The build pass: it reads a checked text again and runs the text's operations on the nodes of relations.
+#![tactic(auto)]
+
 ghost use Rattle.std.specs.Prelude.{◌≡◌, ◌≤◌, length, get_or};
 ghost use Rattle.policy_text.specs.XForms.{x_forms};
 ghost use Rattle.policy_text.specs.Machine.{mix_of};

@@ -1,4 +1,6 @@
 // Policy texts: the reader of 01's grammar and of the rules that need no store.
+#![tactic(auto)]
+
 ghost use Rattle.std.specs.Prelude.{◌≡◌, ℕ};
 ghost use Rattle.policy_text.specs.XForms.{is_digit_byte, is_no_field, x_forms};
 ghost use Rattle.policy_text.specs.Machine.{does_mix};

@@ -1,4 +1,6 @@
 // The operations between relations and sets that may add nodes, after spp.rs: each reads nodes of both kinds and runs its program of `model`.
+#![tactic(auto)]
+
 ghost use Rattle.std.specs.Prelude.{ℕ};
 ghost use Rattle.model.specs.Store.{set};
 ghost use Rattle.model.specs.Images.{two_unions, fwd, bwd};

@@ -1,4 +1,6 @@
 // Whether a relation leads from a set, or to another, after spp.rs: 1 or 0. Nothing is added.
+#![tactic(auto)]
+
 ghost use Rattle.std.specs.Prelude.{◌≡◌, ◌⊎◌, ℕ, ◌+◌, ◌<◌};
 ghost use Rattle.model.specs.Store.{set};
 ghost use Rattle.model.specs.Recursion.{node2};

@@ -1,4 +1,6 @@
 // Products of relations, after spp.rs: `sequence`, `star`, `naive_forward` and `backward`. Each runs its program of `model` for every working memory.
+#![tactic(auto)]
+
 ghost use Rattle.std.specs.Prelude.{◌≡◌, List, [], ◌∷◌, ℕ};
 ghost use Rattle.model.specs.Store.{rel};
 ghost use Rattle.model.specs.Recursion.{node1, node2, each2};

@@ -1,4 +1,6 @@
 // Relations on packets, after spp.rs: operations on relation nodes in a lent slice. Each runs its program of `model` for every working memory.
+#![tactic(auto)]
+
 ghost use Rattle.std.specs.Prelude.{◌≡◌, [], ◌∷◌, ◌≤◌};
 ghost use Rattle.model.specs.Store.{rel};
 ghost use Rattle.model.specs.Programs.{Prog};

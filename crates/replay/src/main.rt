@@ -1,6 +1,8 @@
 // Replays a list of calls from standard input on the store, and writes each answer, in the formats of oracle/README.md.
 // stdin and stdout beside this folder hold a list that `oracle draw` drew and what `oracle replay` writes for it; README.md has
 // the commands. A line that is no call, or asks for more places than there are, ends the replay.
+#![tactic(auto)]
+
 use store_check::head::*;
 
 mod answers;

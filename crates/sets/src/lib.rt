@@ -1,4 +1,6 @@
 // Sets of packets, after sp.rs: operations on set nodes in a lent slice. Each runs its program of `model` for every working memory.
+#![tactic(auto)]
+
 ghost use Rattle.std.specs.Prelude.{◌≡◌, List, [], ◌∷◌, Bool, true, false, ℕ, ◌-◌, ◌*◌, ◌%◌, ◌<◌, ◌≤◌};
 ghost use Rattle.model.specs.Store.{set, Store, signed, stored, sign};
 ghost use Rattle.model.specs.Programs.{Prog, is_universal, has, holds};

@@ -1,4 +1,6 @@
 // The public calls of a packet store on two lent memories, but for `new` and policies.
+#![tactic(auto)]
+
 pub mod filter_calls;
 pub mod image_calls;
 pub mod path_reads;

@@ -1,4 +1,6 @@
 // Whether two lent memories are a store, by document 01's rules, node after node, each entering index and property words.
+#![tactic(auto)]
+
 ghost use Rattle.std.specs.Prelude.{◌≡◌, Bool, true, false, List, ℕ, ◌+◌, ◌*◌, ◌%◌, ◌<◌, ◌≤◌, length, get_or};
 ghost use Rattle.memory.specs.Rows.{most_places};
 ghost use Rattle.model.specs.Store.{Kind, arity, handle_of};

@@ -1,0 +1,11 @@
+-- `index::equal` meets its contract. The loop's invariant: the numbers before j are the same in both.
+use mathlib.Core.Path.{◌≡◌}
+use Prim.Native.Nat.{ℕ, ◌-◌, ◌<◌, ◌≤◌}
+use lib.ListN.{length, get_or}
+use Rattle.memory.proofs.index.equal.Given as goal
+
+abbrev pub invariant-loop-j : goal.invariant-loop-j
+invariant-loop-j l = (l.j ≤ length l.a) × ((k : ℕ) → k < l.j → get_or l.a k 0 ≡ get_or l.b k 0)
+
+abbrev pub decreases-loop-j : goal.decreases-loop-j
+decreases-loop-j l = length l.a - l.j

@@ -1,0 +1,20 @@
+-- `child_of` gives the child that the plain store has: one lemma of Children for each return.
+use Rattle.memory.proofs.Children.{child_there, child_odd, child_even, child_rel}
+use Rattle.memory.proofs.property_words.child_of.Goals as goal
+
+pub returns-then-i-nodes : goal.returns-then-i-nodes
+returns-then-i-nodes c = λ K B n a r w. absurd (child_there K B c.args.nodes.now c.args.c n c.args.h c.args.d _ a r w c.requires
+    (c.place_of-i.ensures K a) c.if-i-nodes.true)
+
+pub returns-then-h-eq1 : goal.returns-then-h-eq1
+returns-then-h-eq1 c = λ K B n a r w. child_odd K B c.args.nodes.now c.args.c n c.args.h c.args.d _ a r w c.requires
+    (c.place_of-i.ensures K a)
+    _ c.if-c-eq2.true c.if-h-eq1.true c.other.ensures
+
+pub returns-else-h-eq1 : goal.returns-else-h-eq1
+returns-else-h-eq1 c = λ K B n a r w. child_even K B c.args.nodes.now c.args.c n c.args.h c.args.d _ a r w c.requires
+    (c.place_of-i.ensures K a) c.if-h-eq1.false
+
+pub returns-else-c-eq2 : goal.returns-else-c-eq2
+returns-else-c-eq2 c = λ K B n a r w. child_rel K B c.args.nodes.now c.args.c n c.args.h c.args.d _ a r w c.requires
+    (c.place_of-i.ensures K a) c.if-c-eq2.false
