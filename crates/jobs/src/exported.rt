@@ -1,4 +1,4 @@
-// The call on a list of jobs under its C name: include/packet_store.h says what it does.
+// The call on a list of jobs, which `jobs_c` exports under this name: include/packet_store.h says what it does.
 ghost use Rattle.store_check.specs.Memory.{memories};
 ghost use Rattle.jobs.specs.Packed.{RunsJobs};
 
@@ -6,8 +6,7 @@ use crate::Job;
 
 // Runs the jobs that are not run yet, in their order, `limit` of them at most. All else is in the functions that take a job by value, since this
 // one is proved by hand; a call that is declined has no turns.
-#[unsafe(no_mangle)]
-pub extern "C" fn packet_store_run_jobs(
+pub fn packet_store_run_jobs(
     relations: &mut [u32],
     sets: &mut [u32],
     work: &mut [u32],
