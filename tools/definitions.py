@@ -24,28 +24,28 @@ import sys
 
 ROOT = os.path.dirname(os.path.dirname(os.path.abspath(__file__)))
 BEGIN, END = "<!-- definitions: begin, written by tools/definitions.py --write -->", "<!-- definitions: end -->"
-LANGUAGE = set("Type Unit ⊥ ¬ × → λ let in record where = : ⌜ ⌝ _ now".split())
+LANGUAGE = set("Type Unit ⊥ ¬ × → λ let in record where = : _ result".split())
 
 # The claims in the page's order: the name there, and the statement, `*` being each field of a record; several must rest on the same but for themselves.
 CLAIMS = [
     ("a call that may add nodes replies by `step`", ["store/src/" + s for s in (
         "set_calls set_call", "relation_calls relation_call", "image_calls image_call", "filter_calls filter_call")]),
     ("a call that only reads equals `step`", ["store/src/" + s for s in ("set_reads set_read", "relation_reads relation_read", "path_reads path_read")]),
-    ("`new` replies by `new-step`", ["new_store/src/lib new"]),
-    ("`policy` replies by `policy-step`", ["policies/src/lib policy"]),
-    ("a list of jobs replies by `jobs-step`", ["jobs/src/exported packet_store_run_jobs"]),
+    ("`new` replies by `new_step`", ["new_store/src/lib new"]),
+    ("`policy` replies by `policy_step`", ["policies/src/lib policy"]),
+    ("a list of jobs replies by `jobs_step`", ["jobs/src/exported packet_store_run_jobs"]),
     ("`*`", ["specs/EveryHistory HistoryRight.*"]),
     ("`AcceptedAlone`", ["specs/AcceptedAlone AcceptedAlone"]),
-    ("`TextRight`", ["proofs/OneText text-right"]),
-    ("`PlainText`", ["proofs/PlainText plain-text"]),
-    ("`NewRight`", ["proofs/NewStore new-right"]),
-    ("`AsHasPath`", ["proofs/FirstPath as-has-path"]),
-    ("`AddedRight`", ["proofs/Added added-right"]),
-    ("`NewAdded`", ["proofs/Added new-added"]),
-    ("`MkAdded`", ["proofs/MkAdded set-mk-added", "proofs/MkAdded relation-mk-added"]),
-    ("`AddedTogether`", ["proofs/Added added-together"]),
-    ("`MembersRight`", ["proofs/MembersInTurn members-right"]),
-    ("`NeverAltered`", ["proofs/MembersInTurn never-altered"]),
+    ("`TextRight`", ["proofs/OneText text_right"]),
+    ("`PlainText`", ["proofs/PlainText plain_text"]),
+    ("`NewRight`", ["proofs/NewStore new_right"]),
+    ("`AsHasPath`", ["proofs/FirstPath as_has_path"]),
+    ("`AddedRight`", ["proofs/Added added_right"]),
+    ("`NewAdded`", ["proofs/Added new_added"]),
+    ("`MkAdded`", ["proofs/MkAdded set_mk_added", "proofs/MkAdded relation_mk_added"]),
+    ("`AddedTogether`", ["proofs/Added added_together"]),
+    ("`MembersRight`", ["proofs/MembersInTurn members_right"]),
+    ("`NeverAltered`", ["proofs/MembersInTurn never_altered"]),
     ("`Worked`", ["specs/Worked Worked"]),
     ("`SinglesRight`", ["specs/SingleCalls SinglesRight"]),
     ("`RunInOrder`", ["specs/JobLists RunInOrder"]),
@@ -63,24 +63,24 @@ ABOUT = {
     "specs/Programs run": "nodes, how a program runs on them, and how a call ends",
     "specs/Relations sequence": "the operations that policies run",
     "specs/Memory encode": "the two memories, and places",
-    "specs/Valid store?": "which memories are a store, as a test",
+    "specs/Valid is_store": "which memories are a store, as a test",
     "specs/Reading reading": "the text of a policy: how it is read, and what it runs",
-    "specs/OnMemories new-step": "`new`",
+    "specs/OnMemories new_step": "`new`",
     "specs/Calls Call": "the calls of `store` as one type",
     "specs/Calls step": "what the 43 calls beside `new` do",
     "specs/Jobs asks": "the operations of jobs, and what a job asks for",
-    "specs/Jobs run-jobs": "how jobs are run in turn",
-    "specs/Jobs jobs-on": "a list of jobs as one call",
-    "specs/Added held-in": "counts of nodes",
-    "specs/Added added-by-new": "what `new` added",
+    "specs/Jobs run_jobs": "how jobs are run in turn",
+    "specs/Jobs jobs_on": "a list of jobs as one call",
+    "specs/Added held_in": "counts of nodes",
+    "specs/Added added_by_new": "what `new` added",
     "specs/AllCalls AnyCall": "all 46 calls as one type",
-    "specs/AllCalls nodes-added": "what any call added",
+    "specs/AllCalls nodes_added": "what any call added",
     "specs/Histories History": "calls that were made, and histories",
     "specs/PlainStore Plain": "the plain store beside the memories",
-    "specs/Lists left-by": "calls in turn, and what each asks of the plain store",
-    "specs/PlainStore plain-policy-step": "a policy on the plain store",
-    "specs/AllCalls all-calls": "all 46 calls on the plain store",
-    "specs/Lists on-plain-store": "a list of calls on the plain store",
+    "specs/Lists left_by": "calls in turn, and what each asks of the plain store",
+    "specs/PlainStore plain_policy_step": "a policy on the plain store",
+    "specs/AllCalls all_calls": "all 46 calls on the plain store",
+    "specs/Lists on_plain_store": "a list of calls on the plain store",
     "specs/MembersInTurn nexts": "calls of `next` in turn",
     "specs/SingleCalls singles": "the single calls of a history",
     "specs/Worked Expected": "tables of calls with their answers",
@@ -115,8 +115,8 @@ def split_at(ts, mark):
 
 
 def spoken(name):
-    """The words by which a text uses a name: of an operator `_+_` the part `+`."""
-    return [p for p in name.split("_") if p] if name.startswith("_") or name.endswith("_") else [name]
+    """The words by which a text uses a name: of an operator `◌+◌` the part `+`."""
+    return [part for part in name.split("◌") if part]
 
 
 class Definition:
@@ -202,7 +202,7 @@ class Source:
             types = " ".join(re.findall(r": (.*)," if kind == "struct" else r"\((.*)\)", body))
             Definition(self, name, kind, body.count("\n") + 2, rust=re.findall(r"[\w:]+", types))
         for name, rest in re.findall(r"^(?:pub(?:\(crate\))? )?(?:extern \"C\" )?fn (\w+)(\(.*?)\n\{", text, re.M | re.S):
-            types, *contract = re.split(r"\s(?:requires|ensures)\b[ \w]*\{", rest)
+            types, *contract = re.split(r"\s(?:requires|ensures)\b[* \w]*\{", rest)
             contract = tokens(" ".join("(%s)" % c.strip().rstrip("}") for c in contract))
             Definition(self, name, "fn", rest.count("\n") + 1, (), (), contract, re.findall(r"[\w:]*[A-Z][\w:]*", types), re.findall(r"(\w+):", types))
 
@@ -217,13 +217,13 @@ def source(path):
 
 def imported(module, name):
     """The definition of a name that is imported from a module, and whether it is a constructor; the name alone where it is the kit's."""
-    crate, *parts = module.split(".")
-    crate = "crates/" + (crate.split("·") + [""])[1]
-    if not crate[7:] or not os.path.isdir(os.path.join(ROOT, crate)):
+    _, crate, *parts = module.split(".")
+    crate = "crates/" + crate
+    if not os.path.isdir(os.path.join(ROOT, crate)):
         return module + "." + name, True
     if parts[:2] == ["specs", "declared"]:
-        types = [p for p in parts[2:] if p != "the-variants"]
-        return source("%s/src/%s.rt" % (crate, (["lib"] + types[:-1])[-1])).defs[types[-1]][-1], parts[-1] == "the-variants"
+        types = [p for p in parts[2:] if p != "TheVariants"]
+        return source("%s/src/%s.rt" % (crate, (["lib"] + types[:-1])[-1])).defs[types[-1]][-1], parts[-1] == "TheVariants"
     return named(source("%s/%s.antt" % (crate, "/".join(parts))), name)
 
 
@@ -278,7 +278,7 @@ def walk(ts, bound, see, binding=False):
             scope.add(lets.pop())
         elif t == ",":
             scope = set(bound)
-        elif t not in scope and t not in LANGUAGE and not re.match(r"\.|\d+$", t):
+        elif not {t, t.split(".")[0]} & (scope | LANGUAGE) and not re.match(r"\.|\d+$", t):
             see(t)
         last = t
     return scope
