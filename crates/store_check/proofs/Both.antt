@@ -13,7 +13,6 @@ use Rattle.memory.specs.Performing.{other}
 use Rattle.memory.specs.Finding.{Emptied}
 use Rattle.memory.specs.Rows.{rows, places, plain}
 use Rattle.memory.specs.Working.{Right}
-use Rattle.memory.proofs.Joining.{there}
 use Rattle.memory.proofs.Rows.{plain_length}
 use Rattle.memory.proofs.Starting.{right_turned, right_cleared}
 use Rattle.memory.proofs.Steps.{false≢true}

@@ -8,7 +8,6 @@ use native.Mathlib.Omega.{arith}
 use native.Mathlib.Decide.{dec_lt}
 use lib.ListN.{length, get_or}
 use lib.Dec.{eqb}
-use Rattle.model.specs.Images.{blank}
 use Rattle.model.specs.Store.{Kind, set, rel, arity, Store, nodes, index, handle_of, get, place, sign}
 use Rattle.model.specs.WellFormed.{Held, Even, Fits, Distinct, WellFormed, level_of}
 use Rattle.model.proofs.Canonical.{Sized}
