@@ -120,27 +120,21 @@ pub turns_most : (M : Memories) (n : ℕ) → turns_of M n ≤ n
 turns_most M n = by_test (λ b. pick b (pick (leb n most_jobs) n 0) 0 ≤ n) (is_store M)
     (λ _. by_test (λ b. pick b n 0 ≤ n) (leb n most_jobs) (λ _. omega arith) (λ _. omega arith)) (λ _. omega arith)
 
--- THE HEAD OF A TURN. A call that is lent the jobs js, the memories M and the working memory w; `Known` is what is known of a tally's numbers
-module _ (Known : Tally → Type 0) (js : List Job) (limit : ℕ) (M : Memories) (w : List ℕ) where
+-- THE HEAD OF A TURN. A call that is lent the jobs js, the memories M and the working memory w
+module _ (js : List Job) (limit : ℕ) (M : Memories) (w : List ℕ) where
   -- what its turns leave
   abbrev pub final : Progress Memories
   final = turns step (turns_of M (length js)) 0 (progress js limit M)
 
   -- `left` turns are left from job i on, and from here they leave that
-  pub record Head : Type 0 where
-    pub i : ℕ
+  pub record Head (i : ℕ) (ys : List Job) (tally : Tally) (here : Memories) (work : List ℕ) : Type 0 where
     pub left : ℕ
-    pub ys : List Job
-    pub tally : Tally
-    pub here : Memories
-    pub work : List ℕ
     pub sum : i + left ≡ turns_of M (length js)
     pub jobs_long : length ys ≡ length js
     pub relations_long : length here.relations ≡ length M.relations
     pub sets_long : length here.sets ≡ length M.sets
     pub work_long : length work ≡ length w
     pub clear : work ≡ zeros work
-    pub known : Known tally
     pub held : tally.held ≡ held_in here
     pub same : turns step left i (progress ys tally.left here) ≡ final
 
@@ -167,111 +161,88 @@ module _ (Known : Tally → Type 0) (js : List Job) (limit : ℕ) (M : Memories)
   says_by true false s e = (ap (returned_by true false) e, ap (λ v. v.state) e)
   says_by false y s e = (ap (returned_by false y) e, ap (λ v. v.state) e)
 
-  abbrev pub fewer : Head → Head → Type 0
-  fewer t' t = t'.left < t.left
-
-  abbrev pub first_head : Known (record { left = limit; held = held_in M }) → Head
-  first_head k = record {
-    i = 0;
+  pub first_head : Head 0 js (record { left = limit; held = held_in M }) M (zeros w)
+  first_head = record {
     left = turns_of M (length js);
-    ys = js;
-    tally = record { left = limit; held = held_in M };
-    here = M;
-    work = zeros w;
     sum = omega arith;
     jobs_long = refl;
     relations_long = refl;
     sets_long = refl;
     work_long = zeros_long w;
     clear = zeros_again w;
-    known = k;
     held = refl;
     same = refl;
   }
 
-  module _ (t : Head) where
+  module _ (i : ℕ) (ys : List Job) (tally : Tally) (here : Memories) (work : List ℕ) (t : Head i ys tally here work) where
     -- the job at place i, and the records that its operands name
     abbrev pub job_of : Job
-    job_of = get_or t.ys t.i no_job
+    job_of = get_or ys i no_job
 
     abbrev pub seen : ℕ → Job
-    seen n = get_or t.ys (place_of n t.i) no_job
+    seen n = get_or ys (place_of n i) no_job
 
     -- A TURN, which gives r and leaves the memories M' and the working memory w'
-    module _ (more : t.i < turns_of M (length js)) (r : Turned) (M' : Memories) (w' : List ℕ)
-        (e : TakesTurn t.tally.left job_of (seen job_of.a.number) (seen job_of.b.number) (seen job_of.c.number) t.here M' t.work w' r)
+    module _ (more : i < turns_of M (length js)) (r : Turned) (M' : Memories) (w' : List ℕ)
+        (e : TakesTurn tally.left job_of (seen job_of.a.number) (seen job_of.b.number) (seen job_of.c.number) here M' work w' r)
       where
-        abbrev now_done : List Job
-        now_done = set t.ys t.i r.job
+      abbrev now_done : List Job
+      now_done = set ys i r.job
 
-        abbrev now_left : Progress Memories
-        now_left = progress now_done r.tally.left M'
+      abbrev now_left : Progress Memories
+      now_left = progress now_done r.tally.left M'
 
-        inside : t.i < length t.ys
-        inside = omega (arith, turns_most M (length js), t.jobs_long, more)
+      inside : i < length ys
+      inside = omega (arith, turns_most M (length js), t.jobs_long, more)
 
-        turned_is : turn r.job r.tally.left M' ≡ turn_at step t.i (progress t.ys t.tally.left t.here)
-        turned_is = e.turn_is
-            ∙ (λ i. take_turn step t.tally.left job_of (named_at t.ys t.i job_of.a.number inside i)
-            (named_at t.ys t.i job_of.b.number inside i) (named_at t.ys t.i job_of.c.number inside i) t.here)
+      turned_is : turn r.job r.tally.left M' ≡ turn_at step i (progress ys tally.left here)
+      turned_is = e.turn_is
+          ∙ (λ j. take_turn step tally.left job_of (named_at ys i job_of.a.number inside j)
+          (named_at ys i job_of.b.number inside j) (named_at ys i job_of.c.number inside j) here)
 
-        pub one_less : turns step (t.left - 1) (t.i + 1) now_left ≡ turns step t.left t.i (progress t.ys t.tally.left t.here)
-        unfolding turns
-        one_less =
-            let f : t.left ≡ suc (t.left - 1) = omega (arith, t.sum, more) in
-            let g : t.i + 1 ≡ suc t.i = omega arith in
-            ap (λ m. turns step (t.left - 1) m now_left) g ∙ ap (λ u. turns step (t.left - 1) (suc t.i) (put_back step t.i t.ys u)) turned_is
-            ∙ sym (ap (λ m. turns step m t.i (progress t.ys t.tally.left t.here)) f)
+      pub one_less : turns step (t.left - 1) (i + 1) now_left ≡ turns step t.left i (progress ys tally.left here)
+      unfolding turns
+      one_less =
+          let f : t.left ≡ suc (t.left - 1) = omega (arith, t.sum, more) in
+          let g : i + 1 ≡ suc i = omega arith in
+          ap (λ m. turns step (t.left - 1) m now_left) g ∙ ap (λ u. turns step (t.left - 1) (suc i) (put_back step i ys u)) turned_is
+          ∙ sym (ap (λ m. turns step m i (progress ys tally.left here)) f)
 
-        -- the next head, where lengths stay
-        module _ (rl : length M'.relations ≡ length t.here.relations) (sl : length M'.sets ≡ length t.here.sets)
-            (wl : length w' ≡ length t.work) (k : Known r.tally) where
-          abbrev pub next_head : Head
-          next_head = record {
-            i = t.i + 1;
-            left = t.left - 1;
-            ys = now_done;
-            tally = r.tally;
-            here = M';
-            work = w';
-            sum = omega (arith, t.sum, more);
-            jobs_long = length-set t.ys t.i r.job ∙ t.jobs_long;
-            relations_long = rl ∙ t.relations_long;
-            sets_long = sl ∙ t.sets_long;
-            work_long = wl ∙ t.work_long;
-            clear = e.zeros_stay t.clear ∙ ap (λ n. replicate n 0) (sym wl);
-            known = k;
-            held = e.held_is;
-            same = one_less ∙ t.same;
-          }
-
-          pub next_fewer : fewer next_head t
-          next_fewer = omega (arith, t.sum, more)
+      -- the next head, where lengths stay
+      pub next_head : length M'.relations ≡ length here.relations → length M'.sets ≡ length here.sets → length w' ≡ length work
+          → Head (i + 1) now_done r.tally M' w'
+      next_head rl sl wl = record {
+        left = t.left - 1;
+        sum = omega (arith, t.sum, more);
+        jobs_long = length-set ys i r.job ∙ t.jobs_long;
+        relations_long = rl ∙ t.relations_long;
+        sets_long = sl ∙ t.sets_long;
+        work_long = wl ∙ t.work_long;
+        clear = e.zeros_stay t.clear ∙ ap (λ n. replicate n 0) (sym wl);
+        held = e.held_is;
+        same = one_less ∙ t.same;
+      }
 
     -- no turn is left
-    ended : turns_of M (length js) ≤ t.i → progress t.ys t.tally.left t.here ≡ final
+    ended : turns_of M (length js) ≤ i → progress ys tally.left here ≡ final
     unfolding turns
     ended l =
         let z : t.left ≡ 0 = omega (arith, t.sum, l) in
-        sym (ap (λ m. turns step m t.i (progress t.ys t.tally.left t.here)) z) ∙ t.same
+        sym (ap (λ m. turns step m i (progress ys tally.left here)) z) ∙ t.same
 
     -- WHAT THE CALL SAYS: r is what it concludes
-    pub says_so : turns_of M (length js) ≤ t.i → (r : AddedReply) → r ≡ concluded (begun_of M (length js) limit) t.tally
-        → RunsJobs js limit M t.here w t.work r t.ys
+    pub says_so : turns_of M (length js) ≤ i → (r : AddedReply) → r ≡ concluded (begun_of M (length js) limit) tally
+        → RunsJobs js limit M here w work r ys
     unfolding jobs_step jobs_on
     says_so l r e =
-        let s = progress t.ys t.tally.left t.here in
+        let s = progress ys tally.left here in
         let by = says_by (is_store M) (leb (length js) most_jobs) s (ended l) in
         record {
-          answer = (λ i. (e i, t.ys)) ∙ (λ i. (
-            with_added (answered_by (is_store M) (leb (length js) most_jobs) t.tally.left)
-                (less (t.held i) (held_in M)),
-            t.ys,
+          answer = (λ j. (e j, ys)) ∙ (λ j. (
+            with_added (answered_by (is_store M) (leb (length js) most_jobs) tally.left)
+                (less (t.held j) (held_in M)),
+            ys,
           )) ∙ by.0;
           state = by.1;
           zeros = t.clear ∙ ap (λ n. replicate n 0) t.work_long;
         }
-
--- a turn is left, or none is
-pub lt_or_le : (a b : ℕ) → (a < b) ⊎ (b ≤ a)
-lt_or_le a b = by_test (λ z. ltb a b ≡ z → (a < b) ⊎ (b ≤ a)) (ltb a b) (λ _ e. inl (ltb-true a b e)) (λ _ e. inr (ltb-false a b e)) refl

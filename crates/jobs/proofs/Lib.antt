@@ -1,5 +1,2 @@
-mod Elements
 mod InTurn
-mod Lending
 mod Numbers
-mod Short
