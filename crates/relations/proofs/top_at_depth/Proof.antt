@@ -1,9 +1,0 @@
--- `top_at_depth` is the constant.
-use borrow.Author.Rules.{rules}
-use Rattle.relations.proofs.top_at_depth.Statement.{statement}
-use Rattle.relations.proofs.top_at_depth.Tie as tie
-
-pub top-at-depth-spec : {M : Type 1} → statement M
-top-at-depth-spec =
-    tie.close
-    (tie.spec (λ c κs. search rules) (λ c. search rules) (λ c. search rules) (λ c. c.before.before.before.before.constant.ensures))
