@@ -9,7 +9,7 @@ use lib.ListN.{length, get_or, take, drop, replicate, length-drop, length-replic
 use lib.Seq.{take-add, drop-drop, get_or-take, get_or-drop, ext_get_or, length-take-le}
 use borrow.Rule.Slice.PartMut.{put_mid}
 use Rattle.model.specs.Store.{Kind, arity, Nodes}
-use Rattle.memory.specs.Rows.{row, rows, places}
+use Rattle.memory.specs.Rows.{row, rows}
 use Rattle.memory.proofs.Rows.{rows_snoc, rows_length, mul_add_one, places_fit}
 use Rattle.store_check.specs.Commit.{cleared}
 use Rattle.store_check.specs.Memory.{head, count, body, places_in, nodes_in, flat, write}
