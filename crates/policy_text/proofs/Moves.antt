@@ -12,8 +12,6 @@ use Rattle.model.specs.Policies.{Policy}
 use mathlib.Core.Logic.{◌⊎◌, inl, inr}
 use native.Mathlib.Nat.{zero-add}
 use lib.Dec.{eqb}
-use denote.Enum.Declared.{tag_of, declared}
-use Rattle.policy_text.specs.contracts.syntax.Read.{enum}
 use Rattle.policy_text.specs.Lexicon.{Lexicon}
 use Rattle.policy_text.specs.Machine.{Acc, nothing, sofar, Left, opening, paren, negs, join_seq, join_term, close, Frame, State, need, post}
 use Rattle.policy_text.specs.Machine.{does_mix, Out, accept, bad, deep, nesting, scan, reads, byte_step, final, start, onward, go, stop, over, ByteStep}
@@ -24,11 +22,7 @@ use Rattle.policy_text.specs.declared.syntax.Read.TheVariants.{End, Bad, Deep}
 
 -- of two refusals
 abbrev pub ReadRefused : Read → Type 0
-ReadRefused x = (tag_of (declared enum) x ≡ 1) ⊎ (tag_of (declared enum) x ≡ 2)
-
-not_end : (e : ℕ) → ReadRefused (End e) → ⊥
-not_end e (inl h) = omega (arith, h)
-not_end e (inr h) = omega (arith, h)
+ReadRefused x = (e : ℕ) → x ≡ End e → ⊥
 
 pub not_true : (x : Bool) → not x ≡ true → x ≡ false
 not_true true e = sym e
@@ -190,13 +184,13 @@ module _ (X : Lexicon) where
 
     pub join_atom_refused : (g : ℕ → Bool) (d at : ℕ) (x : Read) → ReadRefused x → AtomPost X t d need at x → JoinPost X g t d at x
     unfolding AtomPost JoinPost
-    join_atom_refused g d at (End e) r a = absurd (not_end e r)
+    join_atom_refused g d at (End e) r a = absurd (r e refl)
     join_atom_refused g d at (Bad e) r a = λ sa pa σ h. a sa pa 0 σ (zero-add _ ∙ h)
     join_atom_refused g d at (Deep e) r a = λ sa pa σ h. a sa pa 0 σ (zero-add _ ∙ h)
 
     pub join_refused : (g h : ℕ → Bool) (d at : ℕ) (x : Read) → ReadRefused x → JoinPost X g t d at x → JoinPost X h t d at x
     unfolding JoinPost
-    join_refused g h d at (End e) r a = absurd (not_end e r)
+    join_refused g h d at (End e) r a = absurd (r e refl)
     join_refused g h d at (Bad e) r a = a
     join_refused g h d at (Deep e) r a = a
 
@@ -298,7 +292,7 @@ module _ (X : Lexicon) where
 
       pub paren_refused : (x : Read) → ReadRefused x → JoinPost X continues_sum t (d + 1) (at + 1) x → AtomPost X t d need at x
       unfolding AtomPost JoinPost
-      paren_refused (End e) r a = absurd (not_end e r)
+      paren_refused (End e) r a = absurd (r e refl)
       paren_refused (Bad i) r a = λ sa pa n σ g. opened sa pa n σ g ∙ a (opening nothing) nothing (paren sa pa n ∷ σ) (within sa pa n σ g)
       paren_refused (Deep i) r a = λ sa pa n σ g. opened sa pa n σ g ∙ a (opening nothing) nothing (paren sa pa n ∷ σ) (within sa pa n σ g)
 
@@ -334,7 +328,7 @@ module _ (X : Lexicon) where
 
     pub whole_refused : (x : Read) → ReadRefused x → JoinPost X continues_sum t 0 0 x → x ≡ read_of (length t) (reads X t)
     unfolding JoinPost nesting read_of
-    whole_refused (End e) r a = absurd (not_end e r)
+    whole_refused (End e) r a = absurd (r e refl)
     whole_refused (Bad i) r a = sym (ap (read_of (length t)) (whole_from (bad i) (a (opening nothing) nothing [] refl)))
     whole_refused (Deep i) r a = sym (ap (read_of (length t)) (whole_from (deep i) (a (opening nothing) nothing [] refl)))
 

@@ -54,10 +54,12 @@ fn clean_inside(text: &[u8], at: usize) -> bool
         if b == b':' {
             return false;
         }
-        if b == b'*' {
+        let star = b == b'*';
+        if star {
             return false;
         }
-        if b == b'T' {
+        let full = b == b'T';
+        if full {
             return false;
         }
         count = opened(b, count);

@@ -132,7 +132,8 @@ fn atom(text: &[u8], at: usize, depth: u32) -> Read
             if e == text.len() {
                 return Read::Bad(e);
             }
-            if text[e] == b')' {
+            let closes = text[e] == b')';
+            if closes {
                 return Read::End(e + 1);
             }
             return Read::Bad(e);
