@@ -17,7 +17,7 @@ use Rattle.call_rules.specs.declared.added.NodeCounts.{NodeCounts}
 use Rattle.call_rules.proofs.Counting.{less_same, never_zero}
 use Rattle.store.specs.Calls.{new_store, set_call, set_read, relation_call, relation_read, image_call, filter_call, path_read, step}
 use Rattle.theorems.specs.Added.{its_added, its_memories, AddedRight, NewAdded, plus, together, AddedTogether}
-use Rattle.theorems.specs.AllCalls.{AnyCall, call, policy, jobs, any_refusal, any_step, Effect, begins, adds, reads, effect}
+use Rattle.theorems.specs.AllCalls.{AnyCall, call, policy, any_refusal, any_step, Effect, begins, adds, reads, effect}
 use Rattle.theorems.specs.AllCalls.{nodes_added, reply_step, AnyContinues}
 use Rattle.theorems.specs.Histories.{Made, LentInTurn, left_after, NoneRenews, History}
 use Rattle.theorems.specs.Lists.{each_call, Refused}
@@ -58,7 +58,6 @@ module _ (M : Memories) where
   grows (call (filter_call c)) g = adds_up _ (never_fewer M (call (filter_call c)) g)
   grows (call (path_read c)) g = nothing_more _ (reading_left M (call (path_read c)) refl)
   grows (policy t) g = adds_up _ (never_fewer M (policy t) g)
-  grows (jobs js n) g = adds_up _ (never_fewer M (jobs js n) g)
 
   refused_none : (c : AnyCall) (f : Effect) → eqb (any_refusal (any_step c M).answer) 0 ≡ false
       → (let t = any_step c M in nodes_added f (any_refusal t.answer) (held_in M) (held_in t.state) ≡ node_counts 0 0)

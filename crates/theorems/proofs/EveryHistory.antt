@@ -61,10 +61,10 @@ module _ (H : History) where
   pub new_answer : (step (new_store k) M₀).answer ≡ store.Handle H.top
   new_answer = let e = ap (λ t. t.answer) new_comes in sym (cc e)
 
-  pub new_state : (step (new_store k) M₀).state ≡ M
+  new_state : (step (new_store k) M₀).state ≡ M
   new_state = sym (ap (λ t. t.state) new_comes)
 
-  pub right : (cs : List AnyCall) → ListRight all_calls k M₀ cs
+  right : (cs : List AnyCall) → ListRight all_calls k M₀ cs
   right = lists_right all_calls (λ M₀ M P A c. any_right A c) k M₀ H.top new_answer
 
   -- THE FIRST CALLS of the history

@@ -11,10 +11,10 @@ use Rattle.call_rules.specs.Outcome.{outcome, map_answer}
 use Rattle.call_rules.specs.declared.Answer.{Answer}
 use Rattle.call_rules.specs.declared.added.NodeCounts.{NodeCounts}
 use Rattle.call_rules.proofs.Counting.{without_counts}
-use Rattle.theorems.specs.AllCalls.{AnyCall, call, policy, jobs, AnyAnswer, answered, read, jobs_answered, any_refusal, any_step, Effect, adds, reads}
-use Rattle.theorems.specs.AllCalls.{effect, nodes_added, AnyReply, reply_step, AnyContinues, all_calls}
+use Rattle.theorems.specs.AllCalls.{AnyCall, call, policy, AnyAnswer, answered, read, any_refusal, any_step, Effect, adds, reads, effect, nodes_added}
+use Rattle.theorems.specs.AllCalls.{AnyReply, reply_step, AnyContinues, all_calls}
 use Rattle.theorems.specs.EveryHistory.{arguments, replies}
-use Rattle.theorems.specs.Histories.{Promised, of_new, of_adding, of_reading, of_policy, of_jobs, Made, LentInTurn, left_after, NoneRenews}
+use Rattle.theorems.specs.Histories.{Promised, of_new, of_adding, of_reading, of_policy, Made, LentInTurn, left_after, NoneRenews}
 use Rattle.theorems.specs.Lists.{in_turn, each_call, steps, AllContinue, Refused}
 
 -- ONE CALL: its promise, as a step
@@ -30,7 +30,6 @@ is_reply_step (of_new p) = ap (map_answer (λ r. (answered r.0, r.1))) p.0
 is_reply_step {x} {M} (of_adding e p) = ap (map_answer (λ r. (answered r.0, r.1))) p.0 ∙ by_effect x M adds e
 is_reply_step {x} {M} (of_reading e p) = ap (map_answer (λ a. (answered a, node_counts 0 0))) p.0 ∙ by_effect x M reads e
 is_reply_step (of_policy p) = ap (map_answer (λ r. (read r.0, r.1))) p.0
-is_reply_step (of_jobs p) = ap (map_answer (λ r. (jobs_answered r.0, r.1))) p.0
 
 -- without the nodes that it added
 pub is_any_step : {x : AnyCall} {M M' : Memories} {w w' : List ℕ} {a : AnyAnswer} {n : NodeCounts} → Promised x M M' w w' (a, n) → outcome a M' ≡ any_step x M
@@ -42,7 +41,6 @@ continues : (x : AnyCall) {M M' : Memories} {w w' : List ℕ} {b : AnyAnswer} {n
 unfolding any_step
 continues (call c) p n = λ k e. n k _ (ap call e) (ap (λ t. t.answer) (is_any_step p))
 continues (policy t) p n = tt
-continues (jobs js limit) p n = tt
 
 -- the step of a call that was made on M
 pub made_step : (c : Made) (M : Memories) → c.before ≡ M → outcome (c.answer, c.added) c.after ≡ reply_step c.what M
@@ -65,7 +63,6 @@ module _ (M : Memories) (w : List ℕ) where
   unfolding any_step effect
   any_promised (call c) = call_promised c
   any_promised (policy t) = of_policy (refl, refl)
-  any_promised (jobs js n) = of_jobs (refl, refl)
 
 abbrev pub made : AnyCall → Memories → List ℕ → Made
 made x M w = record {

@@ -1,5 +1,5 @@
 -- Lists of calls, of any type on any state: a list in two parts, what each call keeps, and two states in step.
-use mathlib.Core.Path.{◌≡◌, refl, ap}
+use mathlib.Core.Path.{◌≡◌, refl}
 use mathlib.Core.List.{List, [], ◌∷◌, ◌++◌}
 use Rattle.theorems.specs.Lists.{in_turn, each_call}
 
@@ -9,12 +9,6 @@ module _ {C A X : Type 0} (answer : C → X → A) (next : C → X → X) where
   unfolding in_turn
   turn_parted [] later x = refl
   turn_parted (c ∷ before) later x = turn_parted before later (next c x)
-
-  pub answers_parted : (before later : List C) (x : X) → (in_turn answer next (before ++ later) x).answers
-      ≡ (in_turn answer next before x).answers ++ (in_turn answer next later (in_turn answer next before x).state).answers
-  unfolding in_turn
-  answers_parted [] later x = refl
-  answers_parted (c ∷ before) later x = ap (λ rest. answer c x ∷ rest) (answers_parted before later (next c x))
 
   pub each_before : (Q : C → X → Type 0) (before later : List C) (x : X) → each_call next Q (before ++ later) x → each_call next Q before x
   unfolding each_call

@@ -17,7 +17,6 @@ use Rattle.store.specs.Calls.{Call, new_store, set_call, set_read, relation_call
 use Rattle.jobs.specs.Jobs.{is_waiting, handle_kind, answer_kind, Asks, calls, refuses, carried_out, Turn, turn, ran, take_turn}
 use Rattle.jobs.specs.Jobs.{turn_after, run_jobs, ran_jobs, declined, JobsAnswer, jobs_answer, most_jobs, jobs_on}
 use Rattle.jobs.specs.declared.Job.{Job}
-use Rattle.theorems.specs.AllCalls.{jobs_refusal}
 use Rattle.theorems.specs.JobLists.{waiting, asks_after, RunInOrder, jobs_after, so_far, its_asks, RunTo, JobRun}
 
 -- AN ANSWER is of a kind, so no job is run twice
@@ -149,11 +148,6 @@ module _ {X : Type 0} (act : Call → X → Outcome Answer X) where
 
   pub jobs_declined : (js : List Job) (n : ℕ) (x : X) → most_jobs < length js → jobs_on act js n x ≡ outcome (jobs_answer (declined OutOfRange) js) x
   jobs_declined js n x g = by_length (λ t. t ≡ outcome (jobs_answer (declined OutOfRange) js) x) js n x (λ f. absurd (omega (arith, f, g))) (λ _. refl)
-
-  -- declined, it leaves what was there
-  pub jobs_refused : (js : List Job) (n : ℕ) (x : X) → eqb (jobs_refusal (jobs_on act js n x).answer.called) 0 ≡ false → (jobs_on act js n x).state ≡ x
-  jobs_refused js n x = by_length (λ t. eqb (jobs_refusal t.answer.called) 0 ≡ false → t.state ≡ x) js n x
-      (λ _ f. absurd (no_true f refl)) (λ _ f. refl)
 
   -- what holds of the records of a run holds of those of a call, if it holds of the list as it was
   after_jobs : (P : List Job → Type 0) (js : List Job) (n : ℕ) (x : X) → P (rest n [] js x) → P js → P (jobs_after act js n x)

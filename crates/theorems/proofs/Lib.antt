@@ -22,7 +22,6 @@ pub mod OneText
 pub mod AllCalls
 pub mod Histories
 pub mod EveryHistory
-pub mod SingleCalls
 pub mod Refusing
 pub mod AcceptedAlone
 pub mod AnyMemories
@@ -34,6 +33,4 @@ pub mod MembersInTurn
 pub mod WrongMembers
 pub mod WrongNumbers
 pub mod Worked
-pub mod WorkedJobs
-pub mod WrongJobs
 pub mod WrongCounts

@@ -14,7 +14,7 @@ use Rattle.model.specs.Store.{Kind, set, rel, Store, pick}
 use Rattle.model.specs.WellFormed.{WellFormed, Extends}
 use Rattle.model.proofs.Bools.{by_test}
 use Rattle.model.proofs.Bounded.{fits_places_iff}
-use Rattle.model.proofs.Extends.{ext_refl, ext_trans, ext_lasts}
+use Rattle.model.proofs.Extends.{ext_refl, ext_lasts}
 use Rattle.model.proofs.New.{new_does}
 use Rattle.model.proofs.Settle.{run_ext}
 use Rattle.store.specs.Calls.{Call, new_store, set_call, set_read, relation_call, relation_read, image_call, filter_call, path_read}
@@ -86,9 +86,6 @@ pub record Grown (P P' : Plain) : Type 0 where
 pub grown_none : (P : Plain) → Grown P P
 grown_none P = record { width = refl; lists = ext_refl }
 
-pub grown_then : {P Q R : Plain} → Grown P Q → Grown Q R → Grown P R
-grown_then f g = record { width = g.width ∙ f.width; lists = ext_trans f.lists g.lists }
-
 pub verdict_grown : {A : Type 0} (refuse : Refusal → A) (m n : ℕ) (v : ℕ → Store → Verdict A) (P : Plain) → Grown P (on_lists refuse m n v P).state
 unfolding on_lists finishes
 verdict_grown {A} refuse m n v P = by_verdict (v P.width P.lists)
@@ -115,19 +112,6 @@ refused_stays m n (No r) p S x put R = refl
 refused_stays m n (Level l) p S x put R = let T = run (p l) S in
     by_test (λ b. (let t = pick b (outcome (Handle T.value) (put T.store)) (outcome (Declined UsedUp) x) in Refused t.answer → t.state ≡ x))
     (fits_places m n T.store) (λ t R. absurd (not_handle (sym R.is))) (λ t R. refl) R
-
--- a call of `store` only adds nodes, unless `new` is accepted
-pub plain_grown : (m n : ℕ) (c : Call) (P : Plain) → ((k : ℕ) → c ≡ new_store k → Refused (plain_step m n c P).answer) → Grown P (plain_step m n c P).state
-unfolding plain_step asked on_lists
-plain_grown m n (new_store k) P r =
-    subst (Grown P) (sym (refused_stays m n (guard OutOfRange (leb k 32) (Level k)) new blank P (plain_store k) (r k refl))) (grown_none P)
-plain_grown m n (set_call c) P r = verdict_grown Declined m n (set_verdict c) P
-plain_grown m n (set_read c) P r = verdict_grown Declined m n (set_read_verdict c) P
-plain_grown m n (relation_call c) P r = verdict_grown Declined m n (relation_verdict c) P
-plain_grown m n (relation_read c) P r = verdict_grown Declined m n (relation_read_verdict c) P
-plain_grown m n (image_call c) P r = verdict_grown Declined m n (image_verdict c) P
-plain_grown m n (filter_call c) P r = verdict_grown Declined m n (filter_verdict c) P
-plain_grown m n (path_read c) P r = verdict_grown Declined m n (path_verdict c) P
 
 -- THE SAME ANSWER, AND THEY MATCH AGAIN
 -- also as an answer of another type
@@ -200,13 +184,25 @@ module _ {M₀ M : Memories} {P : Plain} (A : Matches M₀ M P) where
     continues = λ r. subst (λ u. ContinuesTo P u.state) (sym f) (grown_continues (verdict_grown Declined m n v P));
   }
 
-  -- where `new` is refused on the memories, it is on the lists
+  new_grown : (k : ℕ) → NewRefused (new_store k) M → Grown P (plain_step m n (new_store k) P).state
+  unfolding plain_step asked
+  new_grown k r = subst (Grown P) (sym (refused_stays m n (guard OutOfRange (leb k 32) (Level k)) new blank P (plain_store k)
+      (subst Refused (new_alike k).answer (r k refl)))) (grown_none P)
+
+  -- the calls of `store` only add nodes, unless `new` is accepted
   pub call_grown : (c : Call) → NewRefused c M → Grown P (plain_step m n c P).state
-  call_grown c r = plain_grown m n c P (λ k e. subst Refused (ap (λ x. (plain_step m n x P).answer) (sym e))
-      (subst Refused (new_alike k).answer (subst (λ x. Refused (step x M).answer) e (r k e))))
+  unfolding plain_step asked on_lists
+  call_grown (new_store k) r = new_grown k r
+  call_grown (set_call c) r = verdict_grown Declined m n (set_verdict c) P
+  call_grown (set_read c) r = verdict_grown Declined m n (set_read_verdict c) P
+  call_grown (relation_call c) r = verdict_grown Declined m n (relation_verdict c) P
+  call_grown (relation_read c) r = verdict_grown Declined m n (relation_read_verdict c) P
+  call_grown (image_call c) r = verdict_grown Declined m n (image_verdict c) P
+  call_grown (filter_call c) r = verdict_grown Declined m n (filter_verdict c) P
+  call_grown (path_read c) r = verdict_grown Declined m n (path_verdict c) P
 
   new_right : (k : ℕ) → CallRight store_calls M₀ M P (new_store k)
-  new_right k = record { alike = new_alike k; continues = λ r. grown_continues (call_grown (new_store k) r) }
+  new_right k = record { alike = new_alike k; continues = λ r. grown_continues (new_grown k r) }
 
   -- THE LAW FOR ONE CALL
   pub call_right : (c : Call) → CallRight store_calls M₀ M P c

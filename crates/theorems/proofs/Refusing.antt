@@ -26,9 +26,8 @@ use Rattle.store.specs.ImageCalls.{image_declines, image_program, filter_decline
 use Rattle.store.specs.RelationCalls.{relation_declines, relation_program, relation_read_declines, relation_read_answer}
 use Rattle.store.specs.SetCalls.{set_declines, set_program, set_read_declines, set_read_answer}
 use Rattle.theorems.specs.AcceptedAlone.{unlimited, unlimited_step, does_read}
-use Rattle.theorems.specs.AllCalls.{AnyCall, call, policy, jobs, Single, answered, read, any_refusal, plain_any_step, effect}
+use Rattle.theorems.specs.AllCalls.{AnyCall, call, policy, answered, read, any_refusal, plain_any_step, effect}
 use Rattle.theorems.specs.PlainStore.{Plain, asked, asked_policy, plain_step, plain_policy_step, on_lists}
-use Rattle.theorems.proofs.JobRecords.{jobs_refused}
 use Rattle.theorems.proofs.KeptTexts.{made_in, builds_kept}
 
 -- ONE CALL, whose outcome t has a limit of places and u has none: accepted, the two are the same; refused, all is as it was
@@ -88,21 +87,12 @@ answers_stay m n (No r) g S x put = refl
 
 -- ANY CALL on the plain store, with m places for sets and n for relations
 module _ (m n : ℕ) where
-  pub any_parts : (x : AnyCall) → Single x → (P : Plain) → Parts (λ a. eqb (any_refusal a) 0) (plain_any_step m n x P) (unlimited_step x P) P
+  pub any_parts : (x : AnyCall) (P : Plain) → Parts (λ a. eqb (any_refusal a) 0) (plain_any_step m n x P) (unlimited_step x P) P
   unfolding plain_any_step unlimited_step plain_step plain_policy_step on_lists
-  any_parts (call c) s P = let q = asked c P in let r = parts fine_answer (Declined UsedUp) refl m n q.lists P q.taken q.verdict (asked_fine c P) in
+  any_parts (call c) P = let q = asked c P in let r = parts fine_answer (Declined UsedUp) refl m n q.lists P q.taken q.verdict (asked_fine c P) in
       record { yes = λ e. ap (map_answer answered) (r.yes e); no = r.no }
-  any_parts (policy t) s P = let q = asked_policy t P in
-      let r = parts fine_text (refused UsedUp) refl m n q.lists P q.taken q.verdict (text_fine t P) in
+  any_parts (policy t) P = let q = asked_policy t P in let r = parts fine_text (refused UsedUp) refl m n q.lists P q.taken q.verdict (text_fine t P) in
       record { yes = λ e. ap (map_answer read) (r.yes e); no = r.no }
-  any_parts (jobs js l) s P = absurd s
-
-  -- a refused call leaves the lists
-  pub any_refused : (x : AnyCall) (P : Plain) → eqb (any_refusal (plain_any_step m n x P).answer) 0 ≡ false → (plain_any_step m n x P).state ≡ P
-  unfolding plain_any_step
-  any_refused (call c) P f = (any_parts (call c) tt P).no f
-  any_refused (policy t) P f = (any_parts (policy t) tt P).no f
-  any_refused (jobs js l) P f = jobs_refused (plain_step m n) js l P f
 
   -- a call that only reads leaves the lists
   pub reads_stay : (x : AnyCall) (P : Plain) → does_read (effect x) ≡ true → (plain_any_step m n x P).state ≡ P
@@ -117,4 +107,3 @@ module _ (m n : ℕ) where
   reads_stay (call (filter_call c)) P e = absurd (no_true refl e)
   reads_stay (call (path_read c)) P e = answers_stay m n (path_declines P.width c P.lists) (λ l. path_answer P.lists l c) P.lists P _
   reads_stay (policy t) P e = absurd (no_true refl e)
-  reads_stay (jobs js l) P e = absurd (no_true refl e)

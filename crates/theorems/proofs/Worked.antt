@@ -49,11 +49,11 @@ use Rattle.theorems.proofs.Lists.{lists_right}
 use Rattle.theorems.proofs.NewStore.{new_right}
 
 -- THE PLAIN STORE: a table without its `new`, on the lists as `new k` leaves them, with m places for sets and n for relations
-abbrev pub without_new : {B : Type 0} → List (AnyCall × B) → List (AnyCall × B)
+abbrev without_new : {B : Type 0} → List (AnyCall × B) → List (AnyCall × B)
 without_new [] = []
 without_new (w ∷ t) = t
 
-abbrev pub RowsPlainly : {B : Type 0} → (AnyReply → B) → ℕ → ℕ → ℕ → List (AnyCall × B) → Type 0
+abbrev RowsPlainly : {B : Type 0} → (AnyReply → B) → ℕ → ℕ → ℕ → List (AnyCall × B) → Type 0
 RowsPlainly see k m n t = map see (plain_steps all_calls m n (map (λ w. w.0) t) (begun k)).answers ≡ map (λ w. w.1) t
 
 abbrev Plainly : ℕ → ℕ → ℕ → List Expected → Type 0
@@ -101,7 +101,7 @@ unfolding in_turn plain_any_step effect plain_policy_step on_lists finishes text
 mixes_plain = refl
 
 -- the handle of `new`: the full relation's
-abbrev pub top_of : ℕ → ℕ
+abbrev top_of : ℕ → ℕ
 top_of zero = 1
 top_of (suc k) = 3 * suc k + 1
 
@@ -111,7 +111,7 @@ new_gives zero = refl
 new_gives (suc k) = new_value (suc k) (omega arith)
 
 -- ON MEMORIES of a numbers for relations and b for sets: whether `new k` is accepted there
-abbrev pub is_enough : ℕ → ℕ → ℕ → Bool
+abbrev is_enough : ℕ → ℕ → ℕ → Bool
 is_enough k a b = leb k 32 && (leb (head rel) a && (leb (head set) b && (leb (3 * k) (places_for rel a) && leb k (places_for set b))))
 
 -- a table that begins with an accepted `new`
@@ -127,7 +127,7 @@ module _ {B : Type 0} (see : AnyReply → B) (k a b : ℕ) (t : List (AnyCall ×
       ap (λ r. r.answer) (sym (fits_new k a b M ea eb (leb→le _ _ u.0) (leb→le _ _ v.0) (leb→le _ _ w.0) (leb→le _ _ x.0) (leb→le _ _ x.1)))
       ∙ ap Handle (new_gives k)
 
-  pub rows_begin : RowsRight see a b ((call (new_store k), see (answered (Handle (top_of k)), node_counts (3 * k) k)) ∷ t)
+  rows_begin : RowsRight see a b ((call (new_store k), see (answered (Handle (top_of k)), node_counts (3 * k) k)) ∷ t)
   unfolding in_turn any_step effect
   rows_begin M ea eb =
       let e = accepted M ea eb in

@@ -1,5 +1,5 @@
--- All 46 calls as one type, the outcome of each on two memories and on the plain store, with the nodes that it added, and what the text of a
--- policy relates; 01, "A list of calls, and its count", and 02, M-101 and M-106.
+-- All 45 calls as one type, the outcome of each on two memories and on the plain store, with the nodes that it added, and what the text of a
+-- policy relates; 01, "A list of calls, and its count", and 02, M-101.
 use Rattle.std.specs.Prelude.{List, ℕ, ◌≤◌, length}
 use Rattle.model.specs.Meaning.{Rel}
 use Rattle.model.specs.Policies.{Policy, meaning}
@@ -7,9 +7,9 @@ use Rattle.store_check.specs.Memory.{Memories}
 use Rattle.store.specs.Calls.{Call, new_store, set_call, set_read, relation_call, relation_read, image_call, filter_call, path_read, step}
 use Rattle.theorems.specs.Lists.{Calling, NewRefused}
 use Rattle.call_rules.specs.Added.{node_counts, held_in, less, added_by_new}
-use Rattle.call_rules.specs.Answers.{refusal, refusal_number}
+use Rattle.call_rules.specs.Answers.{refusal}
 use Rattle.call_rules.specs.Outcome.{Outcome, outcome, map_answer}
-use Rattle.theorems.specs.PlainStore.{Plain, lengths, plain_step, plain_policy_step, plain_jobs_step}
+use Rattle.theorems.specs.PlainStore.{Plain, lengths, plain_step, plain_policy_step}
 use Rattle.call_rules.specs.declared.Answer.{Answer}
 use Rattle.call_rules.specs.declared.added.NodeCounts.{NodeCounts}
 use Rattle.policies.specs.Answers.{policy_refusal}
@@ -18,45 +18,28 @@ use Rattle.policy_text.specs.Answers.{KeepsRules}
 use Rattle.policy_text.specs.Grammar.{Sum}
 use Rattle.policies.specs.Outcome.{policy_step, most_bytes}
 use Rattle.policies.specs.declared.PolicyAnswer.{PolicyAnswer}
-use Rattle.jobs.specs.Jobs.{Called, ran_jobs, declined, JobsAnswer, jobs_step}
-use Rattle.jobs.specs.declared.Job.{Job}
 
--- ALL 46 CALLS: those of `store`, policies of any bytes, and lists of jobs with any records and any limit
+-- ALL 45 CALLS: those of `store`, and policies of any bytes
 pub data AnyCall : Type 0 where
   call : Call → AnyCall
   policy : List ℕ → AnyCall
-  jobs : List Job → ℕ → AnyCall
 
 pub data AnyAnswer : Type 0 where
   answered : Answer → AnyAnswer
   read : PolicyAnswer → AnyAnswer
-  jobs_answered : JobsAnswer → AnyAnswer
 
--- all but a list of jobs are single calls
-abbrev pub Single : AnyCall → Type 0
-Single (call c) = Unit {0}
-Single (policy t) = Unit {0}
-Single (jobs js n) = ⊥
-
--- the refusal's number, or 0; that of a list of jobs is the whole call's
-abbrev pub jobs_refusal : Called → ℕ
-jobs_refusal (ran_jobs n) = 0
-jobs_refusal (declined r) = refusal_number r
-
+-- the refusal's number, or 0
 abbrev pub any_refusal : AnyAnswer → ℕ
 any_refusal (answered a) = refusal a
 any_refusal (read a) = policy_refusal a
-any_refusal (jobs_answered a) = jobs_refusal a.called
 
 unfoldable pub any_step : AnyCall → Memories → Outcome AnyAnswer Memories
 any_step (call c) M = map_answer answered (step c M)
 any_step (policy t) M = map_answer read (policy_step t M)
-any_step (jobs js n) M = map_answer jobs_answered (jobs_step js n M)
 
 unfoldable pub plain_any_step : ℕ → ℕ → AnyCall → Plain → Outcome AnyAnswer Plain
 plain_any_step m n (call c) P = map_answer answered (plain_step m n c P)
 plain_any_step m n (policy t) P = map_answer read (plain_policy_step m n t P)
-plain_any_step m n (jobs js limit) P = map_answer jobs_answered (plain_jobs_step m n js limit P)
 
 -- WHAT A CALL ADDED. A call begins a store, may add nodes to it, or only reads it
 pub data Effect : Type 0 where
@@ -72,7 +55,6 @@ effect (call (image_call c)) = adds
 effect (call (filter_call c)) = adds
 effect (call (path_read c)) = reads
 effect (policy t) = adds
-effect (jobs js n) = adds
 
 -- r is the refusal's number, or 0; n and n' are the nodes held before the call and after it
 abbrev pub nodes_added : Effect → ℕ → NodeCounts → NodeCounts → NodeCounts
@@ -99,7 +81,6 @@ plain_reply_step m n c P = any_counted lengths c P (plain_any_step m n c P)
 abbrev pub AnyContinues : AnyCall → Memories → Type 0
 AnyContinues (call c) M = NewRefused c M
 AnyContinues (policy t) M = Unit {0}
-AnyContinues (jobs js n) M = Unit {0}
 
 abbrev pub all_calls : Calling AnyCall AnyReply
 all_calls = record { on_memories = reply_step; on_plain = plain_reply_step; Continues = AnyContinues }

@@ -10,15 +10,13 @@ use Rattle.call_rules.specs.declared.Answer.TheVariants.{Handle}
 use Rattle.call_rules.specs.declared.added.NodeCounts.{NodeCounts}
 use Rattle.policies.specs.Outcome.{policy_step}
 use Rattle.policies.specs.declared.PolicyAnswer.{PolicyAnswer}
-use Rattle.jobs.specs.Jobs.{JobsAnswer, jobs_step}
-use Rattle.jobs.specs.declared.Job.{Job}
-use Rattle.theorems.specs.AllCalls.{AnyCall, call, policy, jobs, AnyAnswer, answered, read, jobs_answered, adds, reads, effect, AnyReply}
+use Rattle.theorems.specs.AllCalls.{AnyCall, call, policy, AnyAnswer, answered, read, adds, reads, effect, AnyReply}
 use Rattle.theorems.specs.Lists.{Refused}
 
 -- a function was called with the memories M and the working memory w, left M' and w' and returned a reply: what it promises holds.
 -- The functions of `store` for calls that only read promise `Meets` of `step`, and return an answer alone; those for calls that may add nodes
--- promise `Replies` of `step`, and so does `policies::policy` of `policy_step`, and `packet_store_run_jobs`, whose answer is packed, of `jobs_step`.
--- `new_store::new` promises `Meets` of `new_step`, which is `step` of `new`, with the nodes that the new store holds
+-- promise `Replies` of `step`, and so does `policies::policy` of `policy_step`. `new_store::new` promises `Meets` of `new_step`, which is
+-- `step` of `new`, with the nodes that the new store holds
 pub data Promised : AnyCall → Memories → Memories → List ℕ → List ℕ → AnyReply → Type 0 where
   of_new : {k : ℕ} {M M' : Memories} {w w' : List ℕ} {a : Answer} {n : NodeCounts} → Meets (new_counted held_in (step (new_store k) M)) M' w w' (a, n)
       → Promised (call (new_store k)) M M' w w' (answered a, n)
@@ -28,8 +26,6 @@ pub data Promised : AnyCall → Memories → Memories → List ℕ → List ℕ 
       → Promised (call c) M M' w w' (answered a, node_counts 0 0)
   of_policy : {t : List ℕ} {M M' : Memories} {w w' : List ℕ} {a : PolicyAnswer} {n : NodeCounts} → Replies (policy_step t) M M' w w' a n
       → Promised (policy t) M M' w w' (read a, n)
-  of_jobs : {js : List Job} {limit : ℕ} {M M' : Memories} {w w' : List ℕ} {a : JobsAnswer} {n : NodeCounts} → Replies (jobs_step js limit) M M' w w' a n
-      → Promised (jobs js limit) M M' w w' (jobs_answered a, n)
 
 -- A CALL THAT WAS MADE, with the answer and the nodes added as the function returned them
 pub record Made : Type 0 where

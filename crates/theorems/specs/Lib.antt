@@ -8,10 +8,8 @@ pub mod PlainText
 pub mod NewStore
 pub mod Histories
 pub mod EveryHistory
-pub mod SingleCalls
 pub mod AcceptedAlone
 pub mod JobLists
 pub mod Added
 pub mod MembersInTurn
 pub mod Worked
-pub mod WorkedJobs

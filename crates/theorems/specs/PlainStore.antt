@@ -17,8 +17,6 @@ use Rattle.call_rules.specs.declared.added.NodeCounts.{NodeCounts}
 use Rattle.call_rules.specs.declared.Refusal.TheVariants.{OutOfRange, UsedUp}
 use Rattle.policies.specs.Outcome.{refused, text_verdict}
 use Rattle.policies.specs.declared.PolicyAnswer.{PolicyAnswer}
-use Rattle.jobs.specs.Jobs.{JobsAnswer, jobs_on}
-use Rattle.jobs.specs.declared.Job.{Job}
 
 -- 01: "k and two lists of nodes, one of each kind, without limit"
 pub record Plain : Type 0 where
@@ -70,11 +68,6 @@ plain_step m n c P = within Declined m n (asked c P) P
 
 unfoldable pub plain_policy_step : ℕ → ℕ → List ℕ → Plain → Outcome PolicyAnswer Plain
 plain_policy_step m n t P = on_lists refused m n (text_verdict t) P
-
--- 02, M-106: "in 01's plain store each job run is a call of its own; there the answer of an earlier job is the plain store's own where that job
--- ran in the same call, else the one lent"
-abbrev pub plain_jobs_step : ℕ → ℕ → List Job → ℕ → Plain → Outcome JobsAnswer Plain
-plain_jobs_step m n js limit P = jobs_on (plain_step m n) js limit P
 
 -- as `new k` leaves it: 01, "In demand 3's list they begin with `new`"
 abbrev pub begun : ℕ → Plain
