@@ -1,4 +1,4 @@
--- `opened` counts parentheses as `Open-after` does: by the byte.
+-- `opened` counts parentheses as `open_after` does: by the byte.
 use Rattle.policy_text.proofs.Passes.{open_more, open_none, open_fewer, open_same}
 use Rattle.policy_text.proofs.negations.opened.Goals as goal
 
