@@ -27,7 +27,7 @@ pub returns-then-as_u64-most : goal.returns-then-as_u64-most
 returns-then-as_u64-most c =
     record {
       says = λ B f F. also_no _ _ ((c.one-check.ensures set refl).says B f F) _ c.in-Level.is
-          (asked c.args.given c.args.last _ c.if-given-ne0.true
+          (asked c.args.given c.args.last _ (omega arith)
           (too_big _ _ _ _ _ c.as_u64.ensures c.power-most.ensures c.as_level.ensures c.if-as_u64-most.true));
       low = tt;
     }
@@ -36,7 +36,7 @@ pub returns-else-as_u64-most : goal.returns-else-as_u64-most
 returns-else-as_u64-most c =
     record {
       says = λ B f F. also_yes _ _ ((c.one-check.ensures set refl).says B f F) _ c.in-Level.is
-          (asked c.args.given c.args.last _ c.if-given-ne0.true
+          (asked c.args.given c.args.last _ (omega arith)
           (in_range _ _ _ _ _ c.as_u64.ensures c.power-most.ensures c.as_level.ensures c.if-as_u64-most.false));
       low = subst (Low _) c.in-Level.is (c.one-check.ensures set refl).low;
     }
