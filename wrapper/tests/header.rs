@@ -117,7 +117,9 @@ fn refusals_have_one_set_of_words() {
         })
         .collect();
     let numbers: Vec<usize> = texts.iter().map(|&(number, _)| number).collect();
-    assert_eq!(numbers, Vec::from_iter(1..=12));
+    assert_eq!(numbers[..10], Vec::from_iter(1..=10));
+    // Those of jobs alone.
+    assert_eq!(numbers[10..], [11, 12]);
     let listed = texts.iter().map(|(number, text)| format!("{number} {text}"));
     let listed = listed.collect::<Vec<String>>().join(", ");
     assert!(CALLS.replace('\n', " ").contains(&format!(" {listed}. ")), "{listed}");
