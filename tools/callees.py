@@ -1,20 +1,21 @@
 #!/usr/bin/env python3
 """Which functions a function runs, and whether one of them calls itself, by the compiler's own listing.
 
-    rt mir CRATE | tools/callees.py FUNCTION [CHECK..]
+    cat LISTING.. | tools/callees.py FUNCTION [CHECK..]
 
-Reads the listing of a crate and prints a line for each function that FUNCTION runs, itself first: its name, `(loop)` where it has one, and the functions
-that it calls. A CHECK has no line, nor has what runs only inside it. Ends with 1 where a function that has a line calls itself, directly or through others,
-and prints by which calls; with 2 where it cannot tell: a function without a body in the listing, one that is called by a pointer, or a CHECK that is never
-run.
+A LISTING is what the compiler made of a crate: toolchain/mir.json in the library that `rt lib` writes. Reads those of all crates whose functions may run and
+prints a line for each function that FUNCTION runs, itself first: its name, `(loop)` where it has one, and the functions that it calls. A CHECK has no line,
+nor has what runs only inside it. Ends with 1 where a function that has a line calls itself, directly or through others, and prints by which calls; with 2
+where it cannot tell: a function without a body in the listings, one that is called by a pointer, or a CHECK that is never run.
 
 Where the program's text fixes a value's variant, as of `RelationRead::Relates(..)` handed down from function to function, a `match` on it counts with
 the arm of that variant; any other `match` or `if` counts with all its branches.
 """
-import re
+import json
 import sys
 
-TOKEN = re.compile(r'"[^"]*"|[()]|[^\s()"]+')
+# How many parts a term of a body has; a `Switch` has its arms and the default.
+PARTS = {'Seq': 2, 'If': 2, 'Block': 1, 'Loop': 1, 'Assign': 0, 'LendStatic': 0, 'Call': 0, 'Return': 0, 'Exit': 0, 'Skip': 0, 'Unreachable': 0}
 
 
 class Unclear(Exception):
@@ -23,42 +24,43 @@ class Unclear(Exception):
 
 # The listing.
 
-def read(text):
-    """the listing's terms, each a word or a list of terms"""
-    lists = [[]]
-    for token in TOKEN.findall(text):
-        if token == '(':
-            lists.append([])
-        elif token == ')' and len(lists) > 1:
-            done = lists.pop()
-            lists[-1].append(done)
-        else:
-            lists[-1].append(token.strip('"'))
-    if len(lists) != 1 or ')' in lists[0] or not lists[0]:
-        raise Unclear('the listing is not whole')
-    return lists[0]
+def named(term):
+    """the kind of a term and what it holds"""
+    return (term, None) if isinstance(term, str) else next(iter(term.items()))
 
 
-def within(term, below=lambda term: term):
-    """a term and those in it that are no words, in the order of the text; `below` says which parts of one are entered"""
-    rest = [term]
-    while rest:
-        term = rest.pop()
-        if isinstance(term, list):
-            yield term
-            rest.extend(reversed(below(term)))
+class Body:
+    """the terms of a body, each before its parts, and for each where its parts are"""
+
+    def __init__(self, terms):
+        self.terms, self.parts, begun = [named(term) for term in terms], {}, []
+        for at, (kind, holds) in reversed(list(enumerate(self.terms))):
+            count = len(holds[1]) + holds[2] if kind == 'Switch' else PARTS.get(kind)
+            if count is None or count > len(begun):
+                raise Unclear(f'the listing has a {kind} that cannot be read')
+            self.parts[at] = [begun.pop() for _ in range(count)]
+            begun.append(at)
+
+    def running(self, known):
+        """the terms that may run, where the variants of some locals are known"""
+        rest = [0]
+        while rest:
+            at = rest.pop()
+            yield self.terms[at]
+            rest.extend(reversed(self.branches(at, known) if self.terms[at][0] == 'Switch' else self.parts[at]))
+
+    def branches(self, at, known):
+        """the parts of a `match` that may run"""
+        operand, arms, _ = self.terms[at][1]
+        place = operand.get('Copy', {'steps': []})
+        variant = known.get(place['local']) if [named(step) for step in place['steps']][1:] == [('Field', 0)] and 'Variant' in place['steps'][0] else None
+        bodies, default = self.parts[at][:len(arms)], self.parts[at][len(arms):]
+        return bodies + default if variant is None else [body for arm, body in zip(arms, bodies) if variant in arm] or default
 
 
-def items(term):
-    """the terms of a list, `(lcons a (lcons b lnil))`"""
-    while term != 'lnil':
-        yield term[1]
-        term = term[2]
-
-
-def functions_of(listing):
-    """name -> the number of its parameters, which are the locals from 1 on, and its body"""
-    return {term[1]: (int(term[2][3]), term[2][5]) for term in within(listing) if term[0] == 'fn-def'}
+def functions_of(listings):
+    """name -> the number of its parameters, which are the locals from 1 on, and its body; a listing is one line"""
+    return {name: (function['params'], Body(function['body'])) for listing in listings for name, function in json.loads(listing)}
 
 
 # What a function calls, where the variants of some parameters are known.
@@ -66,51 +68,29 @@ def functions_of(listing):
 def variants_in(body, parameters, given):
     """local -> its first field, which of an enum is the variant, where only one can stand there; `given` has those of parameters"""
     writes, lent = {}, set()
-    for term in within(body):
-        if term[0] == 'assign':
-            writes.setdefault(term[1][1], []).append(term)
-        elif term[0] == 'call':
-            writes.setdefault(term[3][1], []).append(term)
-        elif term[0] == 'addrOf':
-            lent.add(term[1][1])
+    for kind, holds in body.terms:
+        if kind in ('Assign', 'LendStatic'):
+            writes.setdefault(holds[0]['local'], []).append((holds[0]['steps'], *named(holds[1])))
+        elif kind == 'Call':
+            writes.setdefault(holds[2]['local'], []).append((holds[2]['steps'], kind, holds))
+        if kind == 'Assign' and named(holds[1])[0] == 'AddrOf':
+            lent.add(holds[1]['AddrOf']['local'])
     known = {local: variant for local, variant in given.items() if local not in writes}
-    for local, (write, *others) in writes.items():
-        whole = write[0] == 'assign' and write[1][2] == 'lnil' and write[2][0] == 'aggregate'
-        first = next(items(write[2][1]), 'none') if whole and not others and int(local) > parameters else 'none'
-        if first[0] == 'int':
-            known[local] = first[2]
+    for local, ((steps, kind, value), *others) in writes.items():
+        if not steps and kind == 'Aggregate' and value and not others and local > parameters and named(value[0])[0] == 'Int':
+            known[local] = value[0]['Int']['value']
     return {local: variant for local, variant in known.items() if local not in lent}
-
-
-def branches(switch, known):
-    """the bodies of a `match` that may run"""
-    _, operand, arms = switch
-    path = list(items(operand[1][2])) if operand[0] == 'copy' else []
-    variant = known.get(operand[1][1]) if len(path) == 2 and path[0][0] == 'variant' and path[1] == ['field', '0'] else None
-    bodies = []
-    while arms[0] == 'arm':
-        _, values, body, arms = arms
-        if variant in items(values):
-            return [body]
-        bodies.append(body)
-    default = arms[1:] if isinstance(arms, list) else []
-    return default if variant else bodies + default
-
-
-def running(body, known):
-    """the terms of a body that may run"""
-    return within(body, lambda term: branches(term, known) if term[0] == 'switch' else term)
 
 
 def calls_in(body, known):
     """the functions called, each with the variants of its parameters that are known"""
-    for term in running(body, known):
-        if term[0] == 'call':
-            _, callee, operands, _ = term
-            if callee[0] != 'direct':
+    for kind, holds in body.running(known):
+        if kind == 'Call':
+            callee, operands, _ = holds
+            if 'Fn' not in callee:
                 raise Unclear('a function is called by a pointer')
-            places = {str(at): operand[1] for at, operand in enumerate(items(operands), 1) if operand[0] == 'copy'}
-            yield callee[1][1], {at: known[local] for at, (_, local, path) in places.items() if path == 'lnil' and local in known}
+            places = {at: operand['Copy'] for at, operand in enumerate(operands, 1) if 'Copy' in operand}
+            yield callee['Fn'][0], {at: known[place['local']] for at, place in places.items() if not place['steps'] and place['local'] in known}
 
 
 # What a function runs.
@@ -125,10 +105,10 @@ def graph(functions, root, checks=()):
             continue
         seen.append((name, given))
         if name not in functions:
-            raise Unclear(f'{name} has no body in the listing')
+            raise Unclear(f'{name} has no body in the listings')
         parameters, body = functions[name]
         known = variants_in(body, parameters, given)
-        if any(term[0] == 'loop' for term in running(body, known)):
+        if any(kind == 'Loop' for kind, _ in body.running(known)):
             loops.add(name)
         called = list(calls_in(body, known))
         calls.setdefault(name, {}).update((callee, None) for callee, _ in called)
@@ -154,7 +134,7 @@ def way_back(name, calls):
 
 
 def main(root, checks):
-    functions = functions_of(read(sys.stdin.read()))
+    functions = functions_of(sys.stdin)
     calls, loops = graph(functions, root, checks)
     for name, called in calls.items():
         print(name + (' (loop)' if name in loops else '') + (': ' if called else '') + ', '.join(called))
