@@ -18,7 +18,7 @@ const TRIES: usize = 31;
 /// The least times of the program at this path, or why there are none.
 pub fn table(seed: u64, program: &Path) -> String {
     if !program.is_file() {
-        return "the lister is not there: `rt check lister` builds it\n".into();
+        return "the lister is not there: `rt run` in crates/lister builds it\n".into();
     }
     let lines = lines(seed);
     let input = format!("{FIELDS}\n{}\n", lines.join("\n"));

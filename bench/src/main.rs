@@ -138,7 +138,7 @@ fn stack(seed: u64) {
 }
 
 fn lister(seed: u64) {
-    let program = Path::new(env!("CARGO_MANIFEST_DIR")).join("../target/bin/lister");
+    let program = Path::new(env!("CARGO_MANIFEST_DIR")).join("../crates/lister/out/lister");
     println!("{}", lister::table(seed, &program));
 }
 
