@@ -15,18 +15,18 @@ unfolding packet rank
 starts n = (refl, omega arith)
 
 -- one field more
-next-rank : (n i r m : ℕ) → r ≡ rank (packet i n) → m ≡ n / 2 ^ i → 2 * r + m % 2 ≡ rank (packet (i + 1) n)
-next-rank n i r m e f = let g : i + 1 ≡ suc i = omega arith in rw g (omega (arith, rank_last i n, e, ap (λ x. x % 2) f))
+next_rank : (n i r m : ℕ) → r ≡ rank (packet i n) → m ≡ n / 2 ^ i → 2 * r + m % 2 ≡ rank (packet (i + 1) n)
+next_rank n i r m e f = let g : i + 1 ≡ suc i = omega arith in rw g (omega (arith, rank_last i n, e, ap (λ x. x % 2) f))
 
-next-rest : (n i m : ℕ) → m ≡ n / 2 ^ i → m / 2 ≡ n / 2 ^ (i + 1)
-next-rest n i m f = ap (λ x. x / 2) f ∙ div-div-eq-div-mul n (2 ^ i) 2 ∙ ap (λ x. n / x) (sym (pow_next i))
+next_rest : (n i m : ℕ) → m ≡ n / 2 ^ i → m / 2 ≡ n / 2 ^ (i + 1)
+next_rest n i m f = ap (λ x. x / 2) f ∙ div-div-eq-div-mul n (2 ^ i) 2 ∙ ap (λ x. n / x) (sym (pow_next i))
 
 -- a rank of at most 32 fields is below 2^32
 small : (n i : ℕ) → i ≤ 32 → rank (packet i n) < 4294967296
 small n i h = omega (arith, rank_below (packet_is i n), pow_less i 32 h)
 
 fits : (n l i r m : ℕ) → l ≤ 32 → i < l → r ≡ rank (packet i n) → m ≡ n / 2 ^ i → 2 * r + m % 2 < 4294967296
-fits n l i r m h j e f = omega (arith, next-rank n _ _ _ e f, small n (i + 1) (omega arith))
+fits n l i r m h j e f = omega (arith, next_rank n _ _ _ e f, small n (i + 1) (omega arith))
 
 pub loop-i-init : goal.loop-i-init
 loop-i-init c = let s = starts c.args.n in (omega arith, s.0, s.1)
@@ -41,4 +41,4 @@ pub loop-i-preserved : goal.loop-i-preserved
 loop-i-preserved c =
     let v = c.loop-i in
     let n = c.args.n in
-    (omega (arith, c.loop-i-test.true), next-rank n _ _ _ v.invariant.1 v.invariant.2, next-rest n _ _ v.invariant.2)
+    (omega (arith, c.loop-i-test.true), next_rank n _ _ _ v.invariant.1 v.invariant.2, next_rest n _ _ v.invariant.2)
