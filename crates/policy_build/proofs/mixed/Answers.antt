@@ -1,0 +1,32 @@
+-- `mixed` performs the operation that its sign stands for: by the comparisons with `&` and `-`.
+use mathlib.Core.Path.{◌≡◌, ap}
+use Prim.Native.Nat.{ℕ}
+use borrow.Author.Tests.{eq-eqb, ne_eqb}
+use Rattle.model.specs.Store.{rel}
+use Rattle.model.specs.Operations.{intersect, xor, difference}
+use Rattle.model.specs.Policies.{mix_program}
+use Rattle.memory.proofs.Steps.{performs_by}
+use Rattle.policy_text.specs.Machine.{mix_of}
+use Rattle.policy_build.proofs.mixed.Goals as goal
+
+module _ (b k x y : ℕ) where
+  is-both : b ≡ 38 → mix_program (mix_of b) k x y ≡ intersect rel k x y
+  unfolding mix_of mix_program
+  is-both e = simp (eq-eqb b 38 e)
+
+  is-minus : b ≡ 45 → mix_program (mix_of b) k x y ≡ difference rel k x y
+  unfolding mix_of mix_program
+  is-minus e = ap (λ b. mix_program (mix_of b) k x y) e
+
+  is-either : (b ≡ 38 → ⊥) → (b ≡ 45 → ⊥) → mix_program (mix_of b) k x y ≡ xor rel k x y
+  unfolding mix_of mix_program
+  is-either e f = simp (ne_eqb b 38 e, ne_eqb b 45 f)
+
+pub returns-then-sign-eq38 : goal.returns-then-sign-eq38
+returns-then-sign-eq38 c = performs_by (is-both _ _ _ _ c.if-sign-eq38.true) c.intersect.ensures
+
+pub returns-then-sign-eq45 : goal.returns-then-sign-eq45
+returns-then-sign-eq45 c = performs_by (is-minus _ _ _ _ c.if-sign-eq45.true) c.difference.ensures
+
+pub returns : goal.returns
+returns c = performs_by (is-either _ _ _ _ c.if-sign-eq38.false c.if-sign-eq45.false) c.xor.ensures
