@@ -11,7 +11,7 @@ use lib.Dec.{eqb, T, eqb→eq}
 use borrow.Author.Tests.{eq-eqb, ne_eqb}
 use Rattle.model.specs.FieldsFromIdentity.{IdentityHeld, from_identity}
 use Rattle.model.specs.Operations.{each_field}
-use Rattle.model.specs.Programs.{is_empty, is_identity, ending, agrees, Prog, mk, bind, ◌>>=◌, Ran, ran, run}
+use Rattle.model.specs.Programs.{is_empty, is_identity, ending, agrees, Prog, mk, ◌>>=◌, Ran, ran, run}
 use Rattle.model.specs.Safety.{Within, Safe, Settled}
 use Rattle.model.specs.Store.{rel, Store, with_nodes, pick, get, child, place, mk_store, mk_handle}
 use Rattle.model.specs.WellFormed.{Held, WellFormed, Extends}

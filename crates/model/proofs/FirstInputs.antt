@@ -13,7 +13,7 @@ use Rattle.model.specs.FirstInputs.{from_halves, first_member_op, first_member, 
 use Rattle.model.specs.FirstInputs.{first_input_kids, first_input_node, first_input}
 use Rattle.model.specs.FirstPair.{LeastRank}
 use Rattle.model.specs.Meaning.{Sem, Rel, Den, Relates, Domain}
-use Rattle.model.specs.Programs.{is_empty, is_universal, same, less, has, Prog, ret, bind, ◌>>=◌, ran, run}
+use Rattle.model.specs.Programs.{is_empty, is_universal, same, less, has, Prog, ret, ◌>>=◌, ran, run}
 use Rattle.model.specs.Images.{has_path}
 use Rattle.model.specs.Recursion.{x0, x1, x00, x01, x10, x11}
 use Rattle.model.specs.Store.{set, rel, Store, pick, get}

@@ -6,7 +6,6 @@ use mathlib.Core.Bool.{Bool, true, false}
 use Prim.Native.Nat.{ℕ, zero, suc, ◌<◌, ◌≤◌, zero-le, suc-le-suc}
 use native.Mathlib.Omega.{arith}
 use lib.ListN.{length, length-append}
-use lib.Dec.{T}
 use borrow.Author.Tests.{eq-eqb}
 use Rattle.model.specs.Programs.{all_below, agrees, Test, same, less, has, holds, Prog, panic, ret, ask, look, mk, bind, Ran, ran, run}
 use Rattle.model.specs.Safety.{Sure, Safe, Settled}

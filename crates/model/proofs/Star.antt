@@ -14,7 +14,7 @@ use Rattle.model.specs.Store.{rel, Store, get}
 use Rattle.model.specs.WellFormed.{WellFormed}
 use Rattle.model.proofs.Constants.{constant_does}
 use Rattle.model.proofs.Extends.{ext_trans}
-use Rattle.model.proofs.Kleene.{stop, step, Ways, ra, rc, way_blocks, ways_blocks, ways_steps}
+use Rattle.model.proofs.Kleene.{stop, step, Ways, way_blocks, ways_blocks, ways_steps}
 use Rattle.model.proofs.Pairs.{den_relates, relates_iff, relates_ext, block, Matrix, relates_x00, relates_x01, relates_x10, relates_x11}
 use Rattle.model.proofs.Pairs.{mk_relates, union_relates, top_relates, rel_empty, rel_full, rel_ident}
 use Rattle.model.proofs.Recursion.{Sound1, op1_does}

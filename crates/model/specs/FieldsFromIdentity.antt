@@ -1,7 +1,7 @@
 -- `test` and `assign` of relations where the identity and the empty relation of all fields are held: only the nodes from the named field up are made.
 use Rattle.std.specs.Prelude.{◌≡◌, List, [], ◌∷◌, true, ℕ, zero, suc}
 use Rattle.model.specs.Store.{rel, Store}
-use Rattle.model.specs.Programs.{is_empty, is_identity, has, holds, Prog, look, mk, bind, ◌>>=◌}
+use Rattle.model.specs.Programs.{is_empty, is_identity, has, holds, Prog, look, mk, ◌>>=◌}
 use Rattle.model.specs.Recursion.{x00, x01}
 use Rattle.model.specs.WellFormed.{Held}
 

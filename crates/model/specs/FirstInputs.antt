@@ -1,7 +1,7 @@
 -- Programs that find the first pair by ranks. They only read. A rank stands for a packet of l fields, FieldOrder's place; 2^l stands for none.
 use Rattle.std.specs.Prelude.{List, ℕ, zero, suc, ◌+◌, ◌^◌, min}
 use Rattle.model.specs.Store.{set, rel}
-use Rattle.model.specs.Programs.{is_empty, is_universal, same, less, has, Prog, panic, ret, ask, look, bind, ◌>>=◌}
+use Rattle.model.specs.Programs.{is_empty, is_universal, same, less, has, Prog, panic, ret, ask, look, ◌>>=◌}
 use Rattle.model.specs.Recursion.{Op1, op1, x0, x1, x00, x01, x10, x11}
 use Rattle.model.specs.Images.{has_path}
 

@@ -1,7 +1,7 @@
 -- The operations between relations and sets, after spp.rs, and `new`. `l` is the level of the operands.
 use Rattle.std.specs.Prelude.{List, [], ◌∷◌, ℕ, zero, suc, min}
 use Rattle.model.specs.Store.{Store, set, rel}
-use Rattle.model.specs.Programs.{is_empty, is_universal, is_identity, less, has, Prog, panic, ret, ask, look, mk, bind, ◌>>=◌}
+use Rattle.model.specs.Programs.{is_empty, is_universal, is_identity, less, has, Prog, panic, ret, ask, look, mk, ◌>>=◌}
 use Rattle.model.specs.Recursion.{Op1, op1, Op2, op2, x0, x1, x00, x01, x10, x11, four, or_else}
 use Rattle.model.specs.Operations.{zero_at_depth, one_at_depth, top_at_depth, union}
 use Rattle.model.specs.Relations.{flip}

@@ -2,7 +2,7 @@
 -- same order of operands and children. `l` is the level of the operands; 01, "The operations".
 use Rattle.std.specs.Prelude.{List, [], ◌∷◌, Bool, true, false, ℕ, zero, suc, ◌-◌, replicate, eqb}
 use Rattle.model.specs.Store.{Kind, set, rel, arity, pick, signed}
-use Rattle.model.specs.Programs.{is_empty, is_universal, same, less, has, Prog, ret, ask, mk, bind, ◌>>=◌}
+use Rattle.model.specs.Programs.{is_empty, is_universal, same, less, has, Prog, ret, ask, mk, ◌>>=◌}
 use Rattle.model.specs.Recursion.{Op1, op1, Op2, op2, each1, each2}
 
 -- the handle of level l whose every walk ends at c

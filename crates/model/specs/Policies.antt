@@ -2,7 +2,7 @@
 -- 02, M-104.
 use Rattle.std.specs.Prelude.{◌≡◌, ◌⊎◌, Bool, true, false, ◌&&◌, ℕ, ltb}
 use Rattle.model.specs.Store.{rel}
-use Rattle.model.specs.Programs.{Prog, bind, ◌>>=◌}
+use Rattle.model.specs.Programs.{Prog, ◌>>=◌}
 use Rattle.model.specs.Operations.{zero_at_depth, one_at_depth, top_at_depth, test, assign, union, intersect, xor, difference}
 use Rattle.model.specs.Relations.{sequence, star}
 use Rattle.model.specs.Meaning.{Rel, Passes, Assign, Filter, Compose, Star, Both, Without, OneOf}

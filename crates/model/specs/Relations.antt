@@ -1,7 +1,7 @@
 -- The operations of relations alone, after spp.rs. `l` is the level of the operands; 01, "The operations": "Matrix rules".
 use Rattle.std.specs.Prelude.{[], ◌∷◌, ℕ}
 use Rattle.model.specs.Store.{rel}
-use Rattle.model.specs.Programs.{is_empty, is_universal, is_identity, less, has, Prog, ret, ask, mk, bind, ◌>>=◌}
+use Rattle.model.specs.Programs.{is_empty, is_universal, is_identity, less, has, Prog, ret, ask, mk, ◌>>=◌}
 use Rattle.model.specs.Recursion.{Op1, op1, Op2, op2, x00, x01, x10, x11, four}
 use Rattle.model.specs.Operations.{one_at_depth, top_at_depth, union}
 

@@ -1,7 +1,7 @@
 -- The operations of sets alone, after sp.rs. `l` is the level of the operands.
 use Rattle.std.specs.Prelude.{[], ◌∷◌, ℕ, zero, suc}
 use Rattle.model.specs.Store.{set, signed}
-use Rattle.model.specs.Programs.{is_empty, is_universal, same, less, has, Prog, panic, ret, ask, look, mk, bind, ◌>>=◌}
+use Rattle.model.specs.Programs.{is_empty, is_universal, same, less, has, Prog, panic, ret, ask, look, mk, ◌>>=◌}
 use Rattle.model.specs.Recursion.{Op2, op2, x0, x1, or_else}
 
 -- sp.rs, `intersects`: 1 for yes, 0 for no
