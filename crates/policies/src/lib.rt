@@ -82,7 +82,8 @@ fn built(relations: &mut [u32], sets: &[u32], work: &mut [u32], text: &[u8]) -> 
         memory::as_level(k),
     );
     store_check::commit::commit(relations, RELATION_COUNT, RELATION_HEAD, 4, n, r);
-    if r.ok {
+    let fits = r.ok;
+    if fits {
         return PolicyAnswer::Handle(r.h);
     }
     PolicyAnswer::Declined(PolicyRefusal::Store(call_rules::Refusal::UsedUp))
