@@ -123,7 +123,7 @@ fn next_by_value(relations: &[u32], sets: &[u32], work: &mut [u32], cursor: Curs
     }
 }
 
-// The next member of a set: the lent record moves on. All else is in `next_by_value`, since this one is proved by hand.
+// The next member of a set: the lent record moves on, to the one that `next_by_value` gives.
 #[unsafe(no_mangle)]
 pub extern "C" fn packet_store_set_next(
     relations: &[u32],
