@@ -11,20 +11,6 @@ use Rattle.listing.specs.Decimal.{decimal}
 use Rattle.listing.specs.Writing.{Adds, AddsFew}
 use Rattle.listing.proofs.Sizes.{few_digits, decimal_is}
 
--- bytes copied to a part of o
-pub put_adds : (at k n : ℕ) (s o q z : List ℕ) → at ≤ length o → n ≡ length s → z ≡ take (length s) s ++ q → Adds at s o (put_mid at k o z) (at + n)
-put_adds at k n s o q z within e f =
-    let long : length (take at o ++ s) ≡ at + n
-    = length-append (take at o) s ∙ (ap (λ (j : ℕ). j + length s) (length-take-le at o within) ∙ ap (λ (j : ℕ). at + j) (sym e)) in
-    let post = post_of at k o in
-    let split : take at o ++ (z ++ post) ≡ (take at o ++ s) ++ (q ++ post)
-    = ap (λ (y : List ℕ). take at o ++ (y ++ post)) (f ∙ ap (λ (l : List ℕ). l ++ q) (take-length s))
-    ∙ (ap (λ (y : List ℕ). take at o ++ y) (append_assoc s q post) ∙ sym (append_assoc (take at o) s (q ++ post))) in
-    record {
-      end = ap (λ (j : ℕ). at + j) e;
-      text = ap (λ (y : List ℕ). take (at + n) y) split ∙ take_at (take at o ++ s) (q ++ post) (at + n) long;
-    }
-
 pub adds_then : {at r r' : ℕ} {s t o o' o'' : List ℕ} → Adds at s o o' r → Adds r t o' o'' r' → Adds at (s ++ t) o o'' r'
 adds_then {at} {r} {r'} {s} {t} {o} {o'} {o''} a b = record {
   end = b.end ∙ (ap (λ (n : ℕ). n + length t) a.end ∙ (omega (arith, length-append s t)));

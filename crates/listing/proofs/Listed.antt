@@ -1,13 +1,12 @@
 -- One policy's line more, and the whole listing, from what each function writes.
 use mathlib.Core.Path.{◌≡◌, sym, ap, ◌∙◌}
 use mathlib.Core.List.{List, [], ◌∷◌, ◌++◌, append_assoc}
-use Prim.Native.Nat.{ℕ, ◌+◌, ◌-◌, ◌*◌, ◌<◌, ◌≤◌}
+use Prim.Native.Nat.{ℕ, suc, ◌+◌, ◌-◌, ◌*◌, ◌<◌, ◌≤◌}
 use native.Mathlib.Omega.{arith}
 use lib.ListN.{length, take, drop, replicate, drop_of_length-le, length-take}
 use lib.Seq.{take_all, take-nil, length-take-le}
 use lib.Dec.{leb}
 use borrow.Author.Tests.{leb-true, leb-false, le-leb, lt-leb}
-use Rattle.bytes.specs.Bytes.{index_of, slice}
 use Rattle.io.specs.Counts.{IsPrefixLen}
 use Rattle.model.specs.Store.{set, rel, arity, pick}
 use Rattle.model.proofs.Bools.{by_test}
@@ -23,7 +22,7 @@ use Rattle.listing.specs.Writing.{AddsFew, PolicyLine, PolicyLines}
 use Rattle.listing.specs.declared.fields.Width.{Width}
 use Rattle.listing.specs.declared.fields.Width.TheVariants.{Is}
 use Rattle.listing.proofs.Adding.{few_as}
-use Rattle.listing.proofs.Splitting.{next_line}
+use Rattle.listing.proofs.Splitting.{first_length, some_line, next_line}
 
 -- what is written and what is left to write
 abbrev pub rest : ℕ → List ℕ → ℕ → List (List ℕ) → Memories → List ℕ
@@ -38,11 +37,11 @@ one_more {t} {i} {M} {M'} {at} {r} {o} {o'} ts p =
     ∙ (ap (λ (l : List ℕ). l ++ tail) (sym p.adds.adds.text) ∙ ap (λ (N : Memories). take r o' ++ policy_lines (i + 1) ts N) (sym p.state))
 
 -- the line at a place of the input
-pub line_more : {i : ℕ} {M M' : Memories} {at r : ℕ} {o o' : List ℕ} (x : List ℕ) (from to : ℕ) → from < length x
-    → to ≡ from + index_of 10 (slice from (length x) x) → PolicyLine (take (to - from) (drop from x)) i M M' at o o' r
-    → rest at o i (lines (drop from x)) M ≡ rest r o' (i + 1) (lines (drop (to + 1) x)) M'
-line_more {i} {M} {M'} {at} {r} {o} {o'} x from to within e p =
-    ap (λ (ls : List (List ℕ)). take at o ++ policy_lines i ls M) (next_line x from to within e) ∙ one_more (lines (drop (to + 1) x)) p
+pub line_more : {i : ℕ} {M M' : Memories} {at r : ℕ} {o o' : List ℕ} (x : List ℕ) (from n : ℕ) → from < length x
+    → n ≡ first_length (drop from x) → PolicyLine (take n (drop from x)) i M M' at o o' r
+    → rest at o i (lines (drop from x)) M ≡ rest r o' (i + 1) (lines (drop (from + (n + 1)) x)) M'
+line_more {i} {M} {M'} {at} {r} {o} {o'} x from n within e p =
+    ap (λ (ls : List (List ℕ)). take at o ++ policy_lines i ls M) (next_line x from n within e) ∙ one_more (lines (drop (from + (n + 1)) x)) p
 
 -- no line is left
 pub no_more : (i : ℕ) (M : Memories) (at : ℕ) (o x : List ℕ) (from : ℕ) → length x ≤ from → rest at o i (lines (drop from x)) M ≡ take at o ++ last_line M
@@ -62,16 +61,15 @@ whole k n r s ts M M' a b e o o' o'' o''' er es begun first all last =
     ∙ λ i. first_line k ++ policy_lines 1 ts (new_step k (zeroed (er i) (es i))).state)))
 
 -- the first line of the input, and the others
-pub first_read : (x : List ℕ) (to : ℕ) → to ≡ 0 + index_of 10 (slice 0 (length x) x)
-    → of_lines (lines x) ≡ listed (width_of (take to x)) (lines (drop (to + 1) x))
+pub first_read : (x : List ℕ) (to : ℕ) → to ≡ first_length x → of_lines (lines x) ≡ listed (width_of (take to x)) (lines (drop (to + 1) x))
 unfolding of_lines width_of lines listed
 first_read [] to e = ap (λ (l : List ℕ). listed (width_of l) (lines (drop (to + 1) []))) (sym (take-nil to))
 first_read (b ∷ t) to e =
-    let same : to - 0 ≡ to = omega arith in
-    ap of_lines (next_line (b ∷ t) 0 to (omega arith) e) ∙ ap (λ (j : ℕ). listed (width_of (take j (b ∷ t))) (lines (drop (to + 1) (b ∷ t)))) same
+    let past : suc to ≡ to + 1 = omega arith in
+    ap of_lines (some_line (b ∷ t) to (omega arith) e) ∙ ap (λ (j : ℕ). listed (width_of (take to (b ∷ t))) (lines (drop j (b ∷ t)))) past
 
 -- THE LISTING, of an input that is not too long
-pub listing_of : (x : List ℕ) (to : ℕ) (w v : Width) → length x ≤ 16384 → to ≡ 0 + index_of 10 (slice 0 (length x) x) → w ≡ width_of (take to x) → w ≡ v
+pub listing_of : (x : List ℕ) (to : ℕ) (w v : Width) → length x ≤ 16384 → to ≡ first_length x → w ≡ width_of (take to x) → w ≡ v
     → listed v (lines (drop (to + 1) x)) ≡ listing x
 unfolding listing
 listing_of x to w v short e read is = let ls = lines (drop (to + 1) x) in

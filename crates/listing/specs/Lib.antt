@@ -1,4 +1,5 @@
 pub mod Lines
 pub mod Decimal
 pub mod Listing
+pub mod Reading
 pub mod Writing

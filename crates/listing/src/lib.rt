@@ -1,15 +1,18 @@
 // What the lister writes for the bytes that it reads: a proved function from input to output.
 #![tactic(auto)]
 
-ghost use Rattle.std.specs.Prelude.{◌≡◌, List, ℕ, length, take};
+ghost use Rattle.std.specs.Prelude.{◌≡◌, List, ℕ, length, take, IfSome, OnOk};
+ghost use Rattle.std.specs.Io.KnownBytes.{Appends};
 ghost use Rattle.io.specs.Counts.{IsPrefixLen};
 ghost use Rattle.listing.specs.Listing.{listing};
 
 use crate::fields::Width;
+use std::io::{Read, Write};
 use store_check::head::*;
 
 mod fields;
 mod lines;
+mod reading;
 mod writing;
 
 // The places of each kind that are lent.
@@ -51,7 +54,7 @@ pub fn list(
         return crate::writing::put(out, 0, b"too long\n");
     }
     let text = &all[..n];
-    let end = bytes::scan::find(text, 0, text.len(), b'\n');
+    let end = crate::lines::line_len(text);
     let width = crate::fields::read(&text[..end]);
     match width {
         Width::Bad => crate::writing::put(out, 0, b"bad k\n"),
@@ -59,14 +62,17 @@ pub fn list(
     }
 }
 
-// Reads all of a file, and writes its listing to standard output.
-pub fn list_file(file: i32) {
+// Reads all of a reader, and writes the listing of what it reads to a writer.
+pub fn list_file<R: Read, W: Write>(reader: &mut R, writer: &mut W) -> std::io::Result<()>
+    ensures { OnOk result (IfSome (R.remaining reader.old)
+        (λ t. Appends (W.contents writer.old) (W.contents writer.new) (listing t))) }
+{
     let mut input = [0u8; INPUT];
-    let n = io::read_full(file, &mut input);
+    let n = crate::reading::read_full(reader, &mut input)?;
     let mut relations = [0u32; RELATIONS];
     let mut sets = [0u32; SETS];
     let mut work = [0u32; WORK];
     let mut out = [0u8; OUTPUT];
     let r = list(&input, n, &mut relations, &mut sets, &mut work, &mut out);
-    io::write_all(libc::STDOUT_FILENO, &out[..r]);
+    writer.write_all(&out[..r])
 }

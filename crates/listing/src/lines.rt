@@ -1,5 +1,6 @@
 // The lines of the listing: k, an answer for each policy, and the counts of nodes.
-ghost use Rattle.std.specs.Prelude.{◌≡◌, ◌+◌, ◌-◌, ◌*◌, ◌<◌, ◌≤◌, length, take, drop};
+ghost use Rattle.std.specs.Prelude.{◌≡◌, ◌+◌, ◌-◌, ◌*◌, ◌<◌, ◌≤◌, ◌==◌, length, take, drop};
+ghost use Rattle.std.specs.List.{position_or_len};
 ghost use Rattle.model.specs.Store.{set, rel, arity};
 ghost use Rattle.store_check.specs.Memory.{memories, head};
 ghost use Rattle.call_rules.specs.OnMemories.{new_step};
@@ -9,6 +10,19 @@ ghost use Rattle.listing.specs.Writing.{PolicyLine, PolicyLines};
 ghost use Rattle.listing.specs.declared.fields.Width.TheVariants.{Is};
 
 use store_check::head::*;
+
+// How long the first line of a text is: the bytes before its first newline, or all.
+pub(crate) fn line_len(text: &[u8]) -> usize
+    ensures upper_bound { result ≤ length text.now }
+    ensures value { result ≡ position_or_len (λ b. b == 10) text.now }
+{
+    for (i, b) in text.iter().enumerate() {
+        if *b == b'\n' {
+            return i;
+        }
+    }
+    text.len()
+}
 
 // A new store of k fields.
 fn begin(relations: &mut [u32], sets: &mut [u32], work: &mut [u32], k: u32)
@@ -57,10 +71,11 @@ fn policy_lines(
     let mut at = begun;
     let mut i = 1;
     while from < input.len() {
-        let to = bytes::scan::find(input, from, input.len(), b'\n');
-        at = policy_line(relations, sets, work, &input[from..to], i, out, at);
+        let rest = &input[from..];
+        let n = line_len(rest);
+        at = policy_line(relations, sets, work, &rest[..n], i, out, at);
         i += 1;
-        from = to + 1;
+        from += n + 1;
     }
     at
 }

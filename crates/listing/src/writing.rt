@@ -12,8 +12,9 @@ pub(crate) fn put(out: &mut [u8], at: usize, s: &[u8]) -> usize
     requires { at + length s.now ≤ length out.old }
     ensures { Adds at s.now out.old out.new result }
 {
-    let n = bytes::copy(s, &mut out[at..]);
-    at + n
+    let end = at + s.len();
+    out[at..end].copy_from_slice(s);
+    end
 }
 
 // Some bytes and a number.

@@ -1,7 +1,7 @@
 // Answers in the oracle's format: a letter, the values, and both counts.
 ghost use Rattle.replay.specs.Showing.{Shows};
 
-use libc::STDOUT_FILENO;
+use std::io::{Result, Write};
 
 // What is written of an answer: a letter, and the first `count` of these numbers.
 #[derive(Clone, Copy)]
@@ -59,42 +59,56 @@ fn show(a: call_rules::Answer) -> Shown
     }
 }
 
+// What a line of the list has written: the answer of a call on a store, or of an accepted `new`, each with the counts of both nodes.
+#[derive(Clone, Copy)]
+pub enum Said {
+    Answer(call_rules::Answer, u32, u32),
+    Opened(u32, u32),
+    Nothing,
+}
+
 // A space and a number.
-fn number(n: u32) {
-    io::write_all(STDOUT_FILENO, b" ");
-    io::print_decimal(STDOUT_FILENO, n as u64);
+fn number<W: Write>(out: &mut W, n: u32) -> Result<()> {
+    write!(out, " {n}")
 }
 
 // The counts of relation nodes and of set nodes, which end a line.
-fn counts(n: u32, m: u32) {
-    number(n);
-    number(m);
-    io::write_all(STDOUT_FILENO, b"\n");
+fn counts<W: Write>(out: &mut W, n: u32, m: u32) -> Result<()> {
+    number(out, n)?;
+    number(out, m)?;
+    out.write_all(b"\n")
 }
 
 // The answer of a call on a store.
-pub fn write(a: call_rules::Answer, n: u32, m: u32) {
+fn write<W: Write>(out: &mut W, a: call_rules::Answer, n: u32, m: u32) -> Result<()> {
     let s = show(a);
     let letter = [s.letter];
     let x = s.x;
-    io::write_all(STDOUT_FILENO, &letter);
+    out.write_all(&letter)?;
     let mut i = 0;
     while i < s.count {
-        number(x[i]);
+        number(out, x[i])?;
         i += 1;
     }
-    counts(n, m);
+    counts(out, n, m)
 }
 
 // The answer of an accepted `new`.
-pub fn opened(n: u32, m: u32) {
-    io::write_all(STDOUT_FILENO, b"o");
-    counts(n, m);
+fn opened<W: Write>(out: &mut W, n: u32, m: u32) -> Result<()> {
+    out.write_all(b"o")?;
+    counts(out, n, m)
+}
+
+// What a line of the list has written.
+pub fn tell<W: Write>(out: &mut W, said: Said) -> Result<()> {
+    match said {
+        Said::Answer(a, n, m) => write(out, a, n, m),
+        Said::Opened(n, m) => opened(out, n, m),
+        Said::Nothing => Ok(()),
+    }
 }
 
 // That the replay ends before this line, from 1.
-pub fn ended(line: usize) {
-    io::write_all(STDOUT_FILENO, b"no call in line ");
-    io::print_decimal(STDOUT_FILENO, line as u64);
-    io::write_all(STDOUT_FILENO, b"\n");
+pub fn ended<W: Write>(out: &mut W, line: usize) -> Result<()> {
+    writeln!(out, "no call in line {line}")
 }

@@ -26,7 +26,7 @@ fn is(name: &[u8], wanted: &[u8], row: Row, count: usize) -> bool
     if row.count != count {
         return false;
     }
-    check::same(name, wanted)
+    name == wanted
 }
 
 // The calls that may add sets.
@@ -265,7 +265,7 @@ fn named(name: &[u8], row: Row) -> Call {
 
 // The call that a line asks for.
 pub fn asked(line: &[u8]) -> Call {
-    let end = bytes::scan::find(line, 0, line.len(), b' ');
+    let end = line.iter().position(|b| *b == b' ').unwrap_or(line.len());
     let row = crate::lines::read_numbers(line, end);
     if !row.good {
         return Call::Nothing;

@@ -4,8 +4,10 @@ ghost use Rattle.model.specs.Store.{set, rel};
 ghost use Rattle.store_check.specs.Memory.{head};
 ghost use Rattle.replay.specs.Lending.{Lends, StepLends};
 
+use crate::answers::Said;
 use crate::calls::Call;
 use jobs::operations::StoreCall;
+use std::io::{Result, Write};
 use store_check::head::*;
 
 // How many numbers of each memory are lent.
@@ -22,12 +24,12 @@ pub enum Step {
     End,
 }
 
-// Makes a call and writes its answer.
-fn operation(relations: &mut [u32], sets: &mut [u32], work: &mut [u32], call: StoreCall)
+// Makes a call, whose answer is to be written.
+fn operation(relations: &mut [u32], sets: &mut [u32], work: &mut [u32], call: StoreCall) -> Said
     requires { (head rel ≤ length relations.old) × (head set ≤ length sets.old) }
 {
     let a = jobs::turns::make_call(relations, sets, work, call);
-    crate::answers::write(a, relations[RELATION_COUNT], sets[SET_COUNT]);
+    Said::Answer(a, relations[RELATION_COUNT], sets[SET_COUNT])
 }
 
 // Begins a store of k fields with r and s places, where there are as many; a refusal keeps the store before.
@@ -39,28 +41,29 @@ fn begin(
     k: u32,
     r: u32,
     s: u32,
-) -> Step
+) -> (Step, Said)
     requires { Lends lent relations.old sets.old }
-    ensures { StepLends result relations.old sets.old }
+    ensures { StepLends result.0 relations.old sets.old }
 {
     let rl = RELATION_HEAD + 4 * (r as usize);
     let sl = SET_HEAD + 2 * (s as usize);
     if rl > relations.len() {
-        return Step::End;
+        return (Step::End, Said::Nothing);
     }
     if sl > sets.len() {
-        return Step::End;
+        return (Step::End, Said::Nothing);
     }
     let a = new_store::new(&mut relations[..rl], &mut sets[..sl], work, k).answer;
     if let call_rules::Answer::Declined(_) = a {
-        crate::answers::write(a, relations[RELATION_COUNT], sets[SET_COUNT]);
-        return Step::On(lent);
+        let said = Said::Answer(a, relations[RELATION_COUNT], sets[SET_COUNT]);
+        return (Step::On(lent), said);
     }
-    crate::answers::opened(relations[RELATION_COUNT], sets[SET_COUNT]);
-    Step::On(Lent {
+    let now = Lent {
         relations: rl,
         sets: sl,
-    })
+    };
+    let said = Said::Opened(relations[RELATION_COUNT], sets[SET_COUNT]);
+    (Step::On(now), said)
 }
 
 // One line of the list.
@@ -70,25 +73,31 @@ fn run_line(
     sets: &mut [u32],
     work: &mut [u32],
     lent: Lent,
-) -> Step
+) -> (Step, Said)
     requires { Lends lent relations.old sets.old }
-    ensures { StepLends result relations.old sets.old }
+    ensures { StepLends result.0 relations.old sets.old }
 {
     let call = crate::calls::asked(line);
     if let Call::New(k, r, s) = call {
         return begin(relations, sets, work, lent, k, r, s);
     }
     let Call::Store(call) = call else {
-        return Step::End;
+        return (Step::End, Said::Nothing);
     };
     let rl = lent.relations;
     let sl = lent.sets;
-    operation(&mut relations[..rl], &mut sets[..sl], work, call);
-    Step::On(lent)
+    let said = operation(&mut relations[..rl], &mut sets[..sl], work, call);
+    (Step::On(lent), said)
 }
 
-// All lines of the list, on memories that hold the store of no fields and no places.
-pub fn replay(text: &[u8], relations: &mut [u32], sets: &mut [u32], work: &mut [u32])
+// All lines of the list, on memories that hold the store of no fields and no places; what each has written goes to a writer.
+pub fn replay<W: Write>(
+    text: &[u8],
+    relations: &mut [u32],
+    sets: &mut [u32],
+    work: &mut [u32],
+    out: &mut W,
+) -> Result<()>
     requires { (head rel ≤ length relations.old) × (head set ≤ length sets.old) }
 {
     let mut lent = Lent {
@@ -98,17 +107,16 @@ pub fn replay(text: &[u8], relations: &mut [u32], sets: &mut [u32], work: &mut [
     let mut from = 0;
     let mut line = 0;
     while from < text.len() {
-        let to = bytes::scan::find(text, from, text.len(), b'\n');
+        let rest = &text[from..];
+        let end = rest.iter().position(|b| *b == b'\n').unwrap_or(rest.len());
         line += 1;
-        match run_line(&text[from..to], relations, sets, work, lent) {
-            Step::On(l) => {
-                lent = l;
-            }
-            Step::End => {
-                crate::answers::ended(line);
-                return;
-            }
-        }
-        from = to + 1;
+        let (step, said) = run_line(&rest[..end], relations, sets, work, lent);
+        crate::answers::tell(out, said)?;
+        let Step::On(now) = step else {
+            return crate::answers::ended(out, line);
+        };
+        lent = now;
+        from += end + 1;
     }
+    Ok(())
 }
