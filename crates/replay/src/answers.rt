@@ -1,5 +1,7 @@
 // Answers in the oracle's format: a letter, the values, and both counts.
-ghost use Rattle.replay.specs.Showing.{Shows};
+ghost use Rattle.std.specs.Prelude.{OnOk};
+ghost use Rattle.std.specs.Io.KnownBytes.{Appends};
+ghost use Rattle.replay.specs.Showing.{Shows, number_text, counts_text, answer_text, opened_text, ended_text, said_text};
 
 use std::io::{Result, Write};
 
@@ -68,19 +70,25 @@ pub enum Said {
 }
 
 // A space and a number.
-fn number<W: Write>(out: &mut W, n: u32) -> Result<()> {
+fn number<W: Write>(out: &mut W, n: u32) -> Result<()>
+    ensures { OnOk result (Appends (W.contents out.old) (W.contents out.new) (number_text n)) }
+{
     write!(out, " {n}")
 }
 
 // The counts of relation nodes and of set nodes, which end a line.
-fn counts<W: Write>(out: &mut W, n: u32, m: u32) -> Result<()> {
+fn counts<W: Write>(out: &mut W, n: u32, m: u32) -> Result<()>
+    ensures { OnOk result (Appends (W.contents out.old) (W.contents out.new) (counts_text n m)) }
+{
     number(out, n)?;
     number(out, m)?;
     out.write_all(b"\n")
 }
 
 // The answer of a call on a store.
-fn write<W: Write>(out: &mut W, a: call_rules::Answer, n: u32, m: u32) -> Result<()> {
+fn write<W: Write>(out: &mut W, a: call_rules::Answer, n: u32, m: u32) -> Result<()>
+    ensures { OnOk result (Appends (W.contents out.old) (W.contents out.new) (answer_text a n m)) }
+{
     let s = show(a);
     let letter = [s.letter];
     let x = s.x;
@@ -94,13 +102,17 @@ fn write<W: Write>(out: &mut W, a: call_rules::Answer, n: u32, m: u32) -> Result
 }
 
 // The answer of an accepted `new`.
-fn opened<W: Write>(out: &mut W, n: u32, m: u32) -> Result<()> {
+fn opened<W: Write>(out: &mut W, n: u32, m: u32) -> Result<()>
+    ensures { OnOk result (Appends (W.contents out.old) (W.contents out.new) (opened_text n m)) }
+{
     out.write_all(b"o")?;
     counts(out, n, m)
 }
 
 // What a line of the list has written.
-pub fn tell<W: Write>(out: &mut W, said: Said) -> Result<()> {
+pub fn tell<W: Write>(out: &mut W, said: Said) -> Result<()>
+    ensures { OnOk result (Appends (W.contents out.old) (W.contents out.new) (said_text said)) }
+{
     match said {
         Said::Answer(a, n, m) => write(out, a, n, m),
         Said::Opened(n, m) => opened(out, n, m),
@@ -109,6 +121,8 @@ pub fn tell<W: Write>(out: &mut W, said: Said) -> Result<()> {
 }
 
 // That the replay ends before this line, from 1.
-pub fn ended<W: Write>(out: &mut W, line: usize) -> Result<()> {
+pub fn ended<W: Write>(out: &mut W, line: usize) -> Result<()>
+    ensures { OnOk result (Appends (W.contents out.old) (W.contents out.new) (ended_text line)) }
+{
     writeln!(out, "no call in line {line}")
 }
