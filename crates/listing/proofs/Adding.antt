@@ -1,11 +1,9 @@
 -- Texts written one after the other, and the digits of a number. From what `put` and `io::decimal` say.
-use mathlib.Core.Path.{◌≡◌, sym, ap, ◌∙◌}
+use mathlib.Core.Path.{◌≡◌, ap, ◌∙◌}
 use mathlib.Core.List.{List, ◌++◌, append_assoc}
 use Prim.Native.Nat.{ℕ, ◌+◌, ◌^◌, ◌<◌, ◌≤◌}
 use native.Mathlib.Omega.{arith}
 use lib.ListN.{length, take, length-append}
-use lib.Seq.{take-length, length-take-le, take_at}
-use borrow.Rule.Slice.PartMut.{post_of, put_mid}
 use Rattle.io.specs.Digits.{last_digits, IsDigitCount}
 use Rattle.listing.specs.Decimal.{decimal}
 use Rattle.listing.specs.Writing.{Adds, AddsFew}

@@ -1,13 +1,12 @@
 -- One policy's line more, and the whole listing, from what each function writes.
 use mathlib.Core.Path.{◌≡◌, sym, ap, ◌∙◌}
 use mathlib.Core.List.{List, [], ◌∷◌, ◌++◌, append_assoc}
-use Prim.Native.Nat.{ℕ, suc, ◌+◌, ◌-◌, ◌*◌, ◌<◌, ◌≤◌}
+use Prim.Native.Nat.{ℕ, suc, ◌+◌, ◌*◌, ◌<◌, ◌≤◌}
 use native.Mathlib.Omega.{arith}
 use lib.ListN.{length, take, drop, replicate, drop_of_length-le, length-take}
 use lib.Seq.{take_all, take-nil, length-take-le}
 use lib.Dec.{leb}
 use borrow.Author.Tests.{leb-true, leb-false, le-leb, lt-leb}
-use Rattle.io.specs.Counts.{IsPrefixLen}
 use Rattle.model.specs.Store.{set, rel, arity, pick}
 use Rattle.model.proofs.Bools.{by_test}
 use Rattle.store_check.specs.Memory.{Memories, memories, head}
@@ -69,11 +68,11 @@ first_read (b ∷ t) to e =
     ap of_lines (some_line (b ∷ t) to (omega arith) e) ∙ ap (λ (j : ℕ). listed (width_of (take to (b ∷ t))) (lines (drop j (b ∷ t)))) past
 
 -- THE LISTING, of an input that is not too long
-pub listing_of : (x : List ℕ) (to : ℕ) (w v : Width) → length x ≤ 16384 → to ≡ first_length x → w ≡ width_of (take to x) → w ≡ v
+pub listing_of : (x : List ℕ) (to : ℕ) (v : Width) → length x ≤ 16384 → to ≡ first_length x → v ≡ width_of (take to x)
     → listed v (lines (drop (to + 1) x)) ≡ listing x
 unfolding listing
-listing_of x to w v short e read is = let ls = lines (drop (to + 1) x) in
-    ap (λ (u : Width). listed u ls) (sym is ∙ read)
+listing_of x to v short e read = let ls = lines (drop (to + 1) x) in
+    ap (λ (u : Width). listed u ls) read
     ∙ (sym (first_read x to e) ∙ ap (λ b. pick b (of_lines (lines x)) too_long) (sym (le-leb (length x) 16384 short)))
 
 pub listing_long : (x : List ℕ) → 16384 < length x → too_long ≡ listing x
@@ -96,13 +95,9 @@ few_there n b all few = length-take-le n b (omega (arith, all, few))
 pub many_there : (n : ℕ) (b : List ℕ) → length b ≡ 16385 → 16384 < n → 16384 < length (take n b)
 many_there n b all many = omega (arith, all, many, length-take n b)
 
--- what `list` says of bytes that it has written
-pub counted : (r n : ℕ) (o y b : List ℕ) → length b ≡ 16385 → r ≤ length o → take r o ≡ y → y ≡ listing (take n b)
-    → IsPrefixLen r o × ((t : List ℕ) → take (length b) t ≡ take n b → take r o ≡ listing t)
-counted r n o y b all within text is = (
-  (within, sym (length-take-le r o within)),
-  λ t e. text ∙ (is ∙ (ap listing (sym e) ∙ (ap (λ (m : ℕ). listing (take m t)) all ∙ listing_read t))),
-)
+-- of a text that begins with n bytes of b, or with all of them and goes on, the listing is that of the n bytes
+pub of_text : (n : ℕ) (b t : List ℕ) → length b ≡ 16385 → take (length b) t ≡ take n b → listing (take n b) ≡ listing t
+of_text n b t all e = ap listing (sym e) ∙ (ap (λ (m : ℕ). listing (take m t)) all ∙ listing_read t)
 
 -- a new store in cleared memories
 pub begun : (k : ℕ) (a : Answer) (r s r₀ s₀ r' s' : List ℕ) → r ≡ replicate (length r₀) 0 → s ≡ replicate (length s₀) 0
