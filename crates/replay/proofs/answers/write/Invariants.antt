@@ -1,8 +1,8 @@
 -- `write` by a loop over the numbers, at most four: those passed are written.
-use Rattle.std.proofs.Common.{◌≡◌, ◌-◌, ◌≤◌, List, ◌∷◌, take}
+use Rattle.std.proofs.Common.{◌-◌, ◌≤◌, take}
 use Rattle.std.specs.List.{flat_map}
 use Rattle.std.specs.Io.KnownBytes.{Appends}
-use Rattle.replay.specs.Showing.{Shows, number_text}
+use Rattle.replay.specs.Showing.{number_text}
 use Rattle.replay.proofs.answers.write.Given as goal
 
 abbrev pub invariant-loop-i : goal.invariant-loop-i
