@@ -4,7 +4,6 @@ use mathlib.Core.Path.{◌≡◌, refl, sym, ap, ◌∙◌}
 use Prim.Native.Nat.{ℕ, zero, suc, ◌+◌, ◌-◌, ◌*◌, ◌^◌, ◌<◌, ◌≤◌}
 use mathlib.Core.Bool.{Bool, true, false}
 use mathlib.Core.List.{List, [], ◌∷◌, ◌++◌, append-nil}
-use mathlib.Core.Logic.{◌⊎◌, inl, inr}
 use native.Mathlib.Omega.{arith}
 use lib.Dec.{ltb, leb, eqb}
 use lib.ListN.{length, get_or, take, set, replicate, length-set, length-take, length-replicate, get_or-eq_default}
@@ -186,42 +185,42 @@ module _ (js : List Job) (limit : ℕ) (M : Memories) (w : List ℕ) where
     module _ (more : i < turns_of M (length js)) (r : Turned) (M' : Memories) (w' : List ℕ)
         (e : TakesTurn tally.left job_of (seen job_of.a.number) (seen job_of.b.number) (seen job_of.c.number) here M' work w' r)
       where
-      abbrev now_done : List Job
-      now_done = set ys i r.job
+        abbrev now_done : List Job
+        now_done = set ys i r.job
 
-      abbrev now_left : Progress Memories
-      now_left = progress now_done r.tally.left M'
+        abbrev now_left : Progress Memories
+        now_left = progress now_done r.tally.left M'
 
-      inside : i < length ys
-      inside = omega (arith, turns_most M (length js), t.jobs_long, more)
+        inside : i < length ys
+        inside = omega (arith, turns_most M (length js), t.jobs_long, more)
 
-      turned_is : turn r.job r.tally.left M' ≡ turn_at step i (progress ys tally.left here)
-      turned_is = e.turn_is
-          ∙ (λ j. take_turn step tally.left job_of (named_at ys i job_of.a.number inside j)
-          (named_at ys i job_of.b.number inside j) (named_at ys i job_of.c.number inside j) here)
+        turned_is : turn r.job r.tally.left M' ≡ turn_at step i (progress ys tally.left here)
+        turned_is = e.turn_is
+            ∙ (λ j. take_turn step tally.left job_of (named_at ys i job_of.a.number inside j)
+            (named_at ys i job_of.b.number inside j) (named_at ys i job_of.c.number inside j) here)
 
-      pub one_less : turns step (t.left - 1) (i + 1) now_left ≡ turns step t.left i (progress ys tally.left here)
-      unfolding turns
-      one_less =
-          let f : t.left ≡ suc (t.left - 1) = omega (arith, t.sum, more) in
-          let g : i + 1 ≡ suc i = omega arith in
-          ap (λ m. turns step (t.left - 1) m now_left) g ∙ ap (λ u. turns step (t.left - 1) (suc i) (put_back step i ys u)) turned_is
-          ∙ sym (ap (λ m. turns step m i (progress ys tally.left here)) f)
+        pub one_less : turns step (t.left - 1) (i + 1) now_left ≡ turns step t.left i (progress ys tally.left here)
+        unfolding turns
+        one_less =
+            let f : t.left ≡ suc (t.left - 1) = omega (arith, t.sum, more) in
+            let g : i + 1 ≡ suc i = omega arith in
+            ap (λ m. turns step (t.left - 1) m now_left) g ∙ ap (λ u. turns step (t.left - 1) (suc i) (put_back step i ys u)) turned_is
+            ∙ sym (ap (λ m. turns step m i (progress ys tally.left here)) f)
 
-      -- the next head, where lengths stay
-      pub next_head : length M'.relations ≡ length here.relations → length M'.sets ≡ length here.sets → length w' ≡ length work
-          → Head (i + 1) now_done r.tally M' w'
-      next_head rl sl wl = record {
-        left = t.left - 1;
-        sum = omega (arith, t.sum, more);
-        jobs_long = length-set ys i r.job ∙ t.jobs_long;
-        relations_long = rl ∙ t.relations_long;
-        sets_long = sl ∙ t.sets_long;
-        work_long = wl ∙ t.work_long;
-        clear = e.zeros_stay t.clear ∙ ap (λ n. replicate n 0) (sym wl);
-        held = e.held_is;
-        same = one_less ∙ t.same;
-      }
+        -- the next head, where lengths stay
+        pub next_head : length M'.relations ≡ length here.relations → length M'.sets ≡ length here.sets → length w' ≡ length work
+            → Head (i + 1) now_done r.tally M' w'
+        next_head rl sl wl = record {
+          left = t.left - 1;
+          sum = omega (arith, t.sum, more);
+          jobs_long = length-set ys i r.job ∙ t.jobs_long;
+          relations_long = rl ∙ t.relations_long;
+          sets_long = sl ∙ t.sets_long;
+          work_long = wl ∙ t.work_long;
+          clear = e.zeros_stay t.clear ∙ ap (λ n. replicate n 0) (sym wl);
+          held = e.held_is;
+          same = one_less ∙ t.same;
+        }
 
     -- no turn is left
     ended : turns_of M (length js) ≤ i → progress ys tally.left here ≡ final

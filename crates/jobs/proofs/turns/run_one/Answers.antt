@@ -1,11 +1,8 @@
 -- `run_one`: a job that waits is run while one more may be, by `carry_out`, and any other stays as it is; the nodes are counted after it.
 use mathlib.Core.Path.{◌≡◌, sym, ap, ◌∙◌}
 use mathlib.Core.List.{List}
-use mathlib.Core.Logic.{inl, inr}
 use Prim.Native.Nat.{ℕ, ◌-◌, ◌<◌, ◌≤◌}
 use native.Mathlib.Omega.{arith}
-use lib.ListN.{length}
-use borrow.Author.Rules.{rules}
 use borrow.Author.Tests.{eq-eqb, ne_eqb}
 use Rattle.store_check.specs.Memory.{Memories, memories}
 use Rattle.call_rules.specs.Added.{held_in}
@@ -14,8 +11,8 @@ use Rattle.store.specs.Calls.{step}
 use Rattle.jobs.specs.Jobs.{Asks, asks, carried_out, turn, ran, take_turn}
 use Rattle.jobs.specs.ByValue.{zeros, CarriesOut, TakesTurn}
 use Rattle.jobs.specs.declared.Job.{Job}
-use Rattle.jobs.proofs.turns.run_one.Statement.{statement}
-use Rattle.jobs.proofs.turns.run_one.Tie as tie
+use Rattle.jobs.proofs.turns.run_one.Goals as goal
+use Rattle.jobs.proofs.turns.run_one.Goals.{then-left-gt0+then-job-eq0, then-left-gt0+else-job-eq0, else-left-gt0}
 
 -- the turn's definition by its tests
 module _ (n : ℕ) (j a b c : Job) (M : Memories) where
@@ -53,71 +50,20 @@ module _ (n : ℕ) (j a b c : Job) (M : Memories) (w : List ℕ) {x y v : List �
       → TakesTurn n j a b c M (memories x y) w v (record { job = r; tally = record { left = l; held = h } })
   passed_over is = met is (λ z. z)
 
--- the ways to the end: the job is run, it was run before, or none may be run
-same_length : tie.Need-same-length
-same_length c =
-    let after-if1 = c.before.before.before in
-    elim after-if1.if1.branch [
-      | inl w ↦ ap length w.14 ∙ w.8.given
-      | inr v ↦ elim v [
-        | inl w ↦ ap length w.3
-        | inr w ↦ ap length w.1
-      ]
-    ]
-
-same-length-2 : tie.Need-same-length-2
-same-length-2 c =
-    let after-if1 = c.before.before.before in
-    elim after-if1.if1.branch [
-      | inl w ↦ ap length w.15 ∙ w.10.given
-      | inr v ↦ elim v [
-        | inl w ↦ ap length w.4
-        | inr w ↦ ap length w.2
-      ]
-    ]
-
-same-length-3 : tie.Need-same-length-3
-same-length-3 c =
-    let after-if1 = c.before.before.before in
-    elim after-if1.if1.branch [
-      | inl w ↦ ap length w.16 ∙ w.12.given
-      | inr v ↦ elim v [
-        | inl w ↦ ap length w.5
-        | inr w ↦ ap length w.3
-      ]
-    ]
-
-returns : tie.Need-returns
+pub returns : goal.returns
 returns c =
-    let after-if1 = c.before.before.before in
-    let entry = after-if1.before.before.before.before in
-    let args = entry.args in
+    let args = c.args in
     let n = args.tally.left in
     let M = memories args.relations.now args.sets.now in
     let held = c.held.ensures in
-    elim after-if1.if1.branch [
-      | inl w ↦
-          ran-one n args.job args.a args.b args.c M args.work.now held w.0.taken w.2.taken w.6.ensures w.7.ensures
-          w.14 w.15 w.16 w.17 w.18
-      | inr v ↦ elim v [
-        | inl w ↦
-            passed_over n args.job args.a args.b args.c M args.work.now held
-            (sym (stays n args.job args.a args.b args.c M w.0.taken w.2.left)) w.3 w.4 w.5 w.6 w.7
-        | inr w ↦
-            passed_over n args.job args.a args.b args.c M args.work.now held
-            (sym (stops n args.job args.a args.b args.c M w.0.left)) w.1 w.2 w.3 w.4 w.5
-      ]
+    elim c.if-left-gt0.branch [
+      | then-left-gt0+then-job-eq0 w ↦
+          ran-one n args.job args.a args.b args.c M args.work.now held w.if-left-gt0.true w.if-job-eq0.true w.ask.ensures w.carry_out-after.ensures
+          w.relations-is w.sets-is w.work-is w.after-is w.left-is
+      | then-left-gt0+else-job-eq0 w ↦
+          passed_over n args.job args.a args.b args.c M args.work.now held
+          (sym (stays n args.job args.a args.b args.c M w.if-left-gt0.true w.if-job-eq0.false)) w.relations-is w.sets-is w.work-is w.after-is w.left-is
+      | else-left-gt0 w ↦
+          passed_over n args.job args.a args.b args.c M args.work.now held
+          (sym (stops n args.job args.a args.b args.c M w.if-left-gt0.false)) w.relations-is w.sets-is w.work-is w.after-is w.left-is
     ]
-
-pub run-one-spec : {M : Type 1} → statement M
-run-one-spec =
-    tie.close
-    (tie.spec
-    (λ c κs. search rules)
-    (λ c κs. search rules)
-    (λ c. search rules)
-    (λ c κs. search rules)
-    same_length
-    same-length-2
-    same-length-3
-    returns)
