@@ -86,7 +86,8 @@ of_plus rel n m = refl
 in_turn_added : (K : Kind) (cs : List Made) (M : Memories) → LentInTurn M cs → NoneRenews cs
     → count K (memory K (left_after M cs)) ≡ count K (memory K M) + of_kind K (together cs)
 unfolding LentInTurn left_after NoneRenews together each_call
-in_turn_added K [] M h n = elim K [ set ↦ omega arith | rel ↦ omega arith ]
+in_turn_added set [] M h n = omega arith
+in_turn_added rel [] M h n = omega arith
 in_turn_added K (c ∷ cs) M h n =
     let here : count K (memory K c.after) ≡ count K (memory K M) + of_kind K c.added
     = subst (λ t. count K (memory K t.state) ≡ count K (memory K M) + of_kind K t.answer.1) (sym (made_step c M h.0))
