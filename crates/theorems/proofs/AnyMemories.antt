@@ -63,7 +63,7 @@ module _ (M : Memories) where
   lists_left : IsStore M → (c : AnyCall) → (plain_any_step (set_places M) (rel_places M) c own).state ≡ own → (any_step c M).state ≡ M
   lists_left s c e = (any_alike (matches_own s) c).matches.written ∙ ap (λ P. encode P.width P.lists M) e ∙ sym (matches_own s).written
 
-  by_store : {Q : Type 0} → (IsStore M → Q) → (is_store M ≡ false → Q) → Q
+  pub by_store : {Q : Type 0} → (IsStore M → Q) → (is_store M ≡ false → Q) → Q
   by_store {Q} y n = by_test (λ b. is_store M ≡ b → Q) (is_store M) (λ _ e. y ((store_says M).iff.0 (subst T (sym e) tt))) (λ _ e. n e) refl
 
   refused_continues : (c : AnyCall) → eqb (any_refusal (any_step c M).answer) 0 ≡ false → AnyContinues c M

@@ -7,7 +7,7 @@ use lib.Dec.{T, leb→le}
 use lib.ListN.{length}
 use borrow.Author.Tests.{le-leb}
 use Rattle.model.specs.Places.{fits_places}
-use Rattle.model.specs.Policies.{Policy, policy_program}
+use Rattle.model.specs.Policies.{policy_program}
 use Rattle.model.specs.Programs.{Prog, Ran, run}
 use Rattle.model.specs.Store.{Store as Nodes, pick}
 use Rattle.model.proofs.Bools.{by_test}
