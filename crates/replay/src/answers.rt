@@ -86,7 +86,7 @@ fn counts<W: Write>(out: &mut W, n: u32, m: u32) -> Result<()>
 }
 
 // The answer of a call on a store.
-fn write<W: Write>(out: &mut W, a: call_rules::Answer, n: u32, m: u32) -> Result<()>
+pub fn write<W: Write>(out: &mut W, a: call_rules::Answer, n: u32, m: u32) -> Result<()>
     ensures { OnOk result (Appends (W.contents out.old) (W.contents out.new) (answer_text a n m)) }
 {
     let s = show(a);
@@ -102,7 +102,7 @@ fn write<W: Write>(out: &mut W, a: call_rules::Answer, n: u32, m: u32) -> Result
 }
 
 // The answer of an accepted `new`.
-fn opened<W: Write>(out: &mut W, n: u32, m: u32) -> Result<()>
+pub fn opened<W: Write>(out: &mut W, n: u32, m: u32) -> Result<()>
     ensures { OnOk result (Appends (W.contents out.old) (W.contents out.new) (opened_text n m)) }
 {
     out.write_all(b"o")?;
