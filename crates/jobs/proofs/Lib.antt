@@ -1,2 +1,3 @@
 mod InTurn
 mod Numbers
+pub mod Unknown

@@ -4,8 +4,8 @@ ghost use Rattle.jobs.specs.Packed.{RunsJobs};
 
 use crate::Job;
 
-// Runs the jobs that are not run yet, in their order, `limit` of them at most. All else is in the functions that take a job by value, since this
-// one is proved by hand; a call that is declined has no turns.
+// Runs the jobs that are not run yet, in their order, `limit` of them at most. All else is in the functions that take a job by value; a call that is
+// declined has no turns.
 pub fn packet_store_run_jobs(
     relations: &mut [u32],
     sets: &mut [u32],

@@ -172,6 +172,7 @@ fn answered(job: Job, call: StoreCall, answer: call_rules::Answer) -> Job
 }
 
 // What a job asks for, where a, b and c are the records that its operands name: 12, then 11, then a call.
+#[tactic(auto, using(crate::proofs::Unknown::of_zero, crate::proofs::Unknown::past_last))]
 fn ask(job: Job, a: Job, b: Job, c: Job) -> Asked
     ensures { as_asks result ≡ asks job a b c }
 {

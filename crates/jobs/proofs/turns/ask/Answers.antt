@@ -1,9 +1,9 @@
 -- `ask`: 12 where the number is of no operation, 11 where an operand stands for nothing, and else the call, by what `operands`, `stands_for` and `call` say.
-use mathlib.Core.Bool.{◌&&◌, true, false}
+use mathlib.Core.Bool.{◌&&◌, true}
 use mathlib.Core.Path.{◌≡◌, sym, ap, ◌∙◌}
 use Prim.Native.Nat.{ℕ, ◌<◌, ◌≤◌}
 use native.Mathlib.Omega.{arith}
-use borrow.Author.Tests.{lt-ltb, le-leb, lt-leb}
+use borrow.Author.Tests.{lt-ltb, le-leb}
 use Rattle.store.specs.Calls.{Call}
 use Rattle.jobs.specs.Operations.{is_known_refusal, numbered}
 use Rattle.jobs.specs.Jobs.{calls, refuses, stands_for, with_values, asks}
@@ -13,18 +13,11 @@ use Rattle.jobs.specs.declared.turns.Value.{Value}
 use Rattle.jobs.specs.declared.turns.Value.TheVariants.{Is, Missing}
 use Rattle.jobs.proofs.turns.ask.Goals as goal
 
--- numbers of operations, and those past the last
+-- numbers of operations
 is_known : (n : ℕ) → 0 < n → n ≤ 38 → is_known_refusal n ≡ true
 is_known n positive most = λ i. lt-ltb 0 n positive i && le-leb n 38 most i
 
-past-last : (n : ℕ) → 38 < n → is_known_refusal n ≡ false
-past-last n h = λ i. lt-ltb 0 n (omega arith) i && lt-leb n 38 h i
-
 module _ (j a b c : Job) where
-  unknown : is_known_refusal j.operation ≡ false → refuses 12 ≡ asks j a b c
-  unfolding asks
-  unknown e = rw e
-
   -- what the operands stand for: x, y and z
   module _ (known : is_known_refusal j.operation ≡ true) {s : Slots} (is : s ≡ (numbered j.operation).operands) {x y z : Value}
       (first : x ≡ stands_for s.a j.a a) (second : y ≡ stands_for s.b j.b b) (third : z ≡ stands_for s.c j.c c) where
@@ -53,39 +46,29 @@ module _ (j a b c : Job) where
     called : {d : Call} {p q r : ℕ} → x ≡ Is p → y ≡ Is q → z ≡ Is r → d ≡ (numbered j.operation).call p q r → calls d ≡ asks j a b c
     called e f g h = ap calls h ∙ sym (λ i. with_values (numbered j.operation) (e i) (f i) (g i)) ∙ valued
 
-pub returns-then-n-eq0 : goal.returns-then-n-eq0
-returns-then-n-eq0 c =
-    let args = c.args in
-    unknown args.job args.a args.b args.c (ap is_known_refusal c.if-n-eq0.true)
-
-pub returns-then-n-gt38 : goal.returns-then-n-gt38
-returns-then-n-gt38 c =
-    let args = c.args in
-    unknown args.job args.a args.b args.c (past-last _ c.if-n-gt38.true)
-
 pub returns-in_default : goal.returns-in_default
 returns-in_default c =
     let args = c.args in
-    no-first args.job args.a args.b args.c (is_known _ (omega (arith, c.if-n-eq0.false)) c.if-n-gt38.false) c.operands-slots.ensures
+    no-first args.job args.a args.b args.c (is_known args.job.operation (omega arith) (omega arith)) c.operands-slots.ensures
     c.stands_for-x.ensures c.stands_for-y.ensures c.stands_for-z.ensures c.in_default.is
 
 pub returns-in_default-y : goal.returns-in_default-y
 returns-in_default-y c =
     let args = c.args in
-    no_second args.job args.a args.b args.c (is_known _ (omega (arith, c.if-n-eq0.false)) c.if-n-gt38.false) c.operands-slots.ensures
+    no_second args.job args.a args.b args.c (is_known args.job.operation (omega arith) (omega arith)) c.operands-slots.ensures
     c.stands_for-x.ensures c.stands_for-y.ensures c.stands_for-z.ensures c.in-Is.is
     c.in_default-y.is
 
 pub returns-in_default-z : goal.returns-in_default-z
 returns-in_default-z c =
     let args = c.args in
-    no_third args.job args.a args.b args.c (is_known _ (omega (arith, c.if-n-eq0.false)) c.if-n-gt38.false) c.operands-slots.ensures
+    no_third args.job args.a args.b args.c (is_known args.job.operation (omega arith) (omega arith)) c.operands-slots.ensures
     c.stands_for-x.ensures c.stands_for-y.ensures c.stands_for-z.ensures c.in-Is.is
     c.in-Is-y.is c.in_default-z.is
 
 pub returns : goal.returns
 returns c =
     let args = c.args in
-    called args.job args.a args.b args.c (is_known _ (omega (arith, c.if-n-eq0.false)) c.if-n-gt38.false) c.operands-slots.ensures
+    called args.job args.a args.b args.c (is_known args.job.operation (omega arith) (omega arith)) c.operands-slots.ensures
     c.stands_for-x.ensures c.stands_for-y.ensures c.stands_for-z.ensures c.in-Is.is
     c.in-Is-y.is c.in-Is-z.is c.call.ensures
