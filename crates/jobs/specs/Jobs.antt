@@ -10,7 +10,7 @@ use Rattle.call_rules.specs.declared.Answer.TheVariants.{Handle, Truth, SetNode,
 use Rattle.call_rules.specs.declared.Refusal.{Refusal}
 use Rattle.call_rules.specs.declared.Refusal.TheVariants.{NotStore, OutOfRange}
 use Rattle.store.specs.Calls.{Call, new_store, set_call, set_read, relation_call, relation_read, image_call, filter_call, path_read, step}
-use Rattle.jobs.specs.Operations.{Operation, is_known_refusal, numbered}
+use Rattle.jobs.specs.Operations.{Operation, is_known_operation, numbered}
 use Rattle.jobs.specs.declared.Job.{Job}
 use Rattle.jobs.specs.declared.Operand.{Operand}
 use Rattle.jobs.specs.declared.operations.Slot.{Slot}
@@ -109,7 +109,7 @@ with_values o Missing v w = refuses 11
 -- "12 is found before 11, and both before the operation's own"; a, b and c are the records that its operands name
 unfoldable pub asks : Job → Job → Job → Job → Asks
 asks j a b c = (let o = numbered j.operation in
-    pick (is_known_refusal j.operation)
+    pick (is_known_operation j.operation)
     (with_values o (stands_for o.operands.a j.a a) (stands_for o.operands.b j.b b) (stands_for o.operands.c j.c c))
     (refuses 12))
 

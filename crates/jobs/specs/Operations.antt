@@ -65,8 +65,8 @@ operations =
     ∷ ternary Set Relation Set (λ p a q. path_read (P.HasPath p a q)) ∷ []
 
 -- 02: "12, unknown operation number"
-abbrev pub is_known_refusal : ℕ → Bool
-is_known_refusal n = ltb 0 n && leb n (length operations)
+abbrev pub is_known_operation : ℕ → Bool
+is_known_operation n = ltb 0 n && leb n (length operations)
 
 -- the operation of a known number; of any other it is the first
 unfoldable pub numbered : ℕ → Operation

@@ -14,7 +14,7 @@ use Rattle.store.specs.declared.relation_reads.RelationRead.TheVariants as RR
 use Rattle.store.specs.declared.set_calls.SetCall.TheVariants.{Zero}
 use Rattle.store.specs.declared.set_reads.SetRead.TheVariants as SR
 use Rattle.jobs.specs.Jobs.{set_handle, relation_handle, named, stands_for, Asks, calls, refuses, with_values, asks}
-use Rattle.jobs.specs.Operations.{Operation, nullary, operations, is_known_refusal, numbered}
+use Rattle.jobs.specs.Operations.{Operation, nullary, operations, is_known_operation, numbered}
 use Rattle.jobs.specs.declared.Job.{Job}
 use Rattle.jobs.specs.declared.Operand.{Operand}
 use Rattle.jobs.specs.declared.operations.Slot.{Slot}
@@ -78,7 +78,7 @@ asks_job_call j a b c d e =
     let u = stands_for o.operands.a j.a a in
     let v = stands_for o.operands.b j.b b in
     let w = stands_for o.operands.c j.c c in
-    ap does_ask (sym e) ∙ by_test (λ t. does_ask (pick t (with_values o u v w) (refuses 12)) ≡ true) (is_known_refusal j.operation)
+    ap does_ask (sym e) ∙ by_test (λ t. does_ask (pick t (with_values o u v w) (refuses 12)) ≡ true) (is_known_operation j.operation)
     (λ _. values_are o (numbered_is j.operation) u v w) (λ _. refl)
 
 -- NEVER `NEW`
@@ -123,6 +123,6 @@ spare_ignored j k S done =
     let a = same o.operands.a j.a k.a S.a in
     let b = same o.operands.b j.b k.b S.b in
     let c = same o.operands.c j.c k.c S.c in
-    (λ i. pick (is_known_refusal j.operation) (with_values o (a i) (b i) (c i)) (refuses 12))
-    ∙ ap (λ n. (let o = numbered n in pick (is_known_refusal n) (with_values o (stands_for o.operands.a k.a (named done k k.a))
+    (λ i. pick (is_known_operation j.operation) (with_values o (a i) (b i) (c i)) (refuses 12))
+    ∙ ap (λ n. (let o = numbered n in pick (is_known_operation n) (with_values o (stands_for o.operands.a k.a (named done k k.a))
     (stands_for o.operands.b k.b (named done k k.b)) (stands_for o.operands.c k.c (named done k k.c))) (refuses 12))) S.operation

@@ -5,7 +5,7 @@ use Prim.Native.Nat.{ℕ, ◌<◌, ◌≤◌}
 use native.Mathlib.Omega.{arith}
 use borrow.Author.Tests.{lt-ltb, le-leb}
 use Rattle.store.specs.Calls.{Call}
-use Rattle.jobs.specs.Operations.{is_known_refusal, numbered}
+use Rattle.jobs.specs.Operations.{is_known_operation, numbered}
 use Rattle.jobs.specs.Jobs.{calls, refuses, stands_for, with_values, asks}
 use Rattle.jobs.specs.declared.Job.{Job}
 use Rattle.jobs.specs.declared.operations.Slots.{Slots}
@@ -14,12 +14,12 @@ use Rattle.jobs.specs.declared.turns.Value.TheVariants.{Is, Missing}
 use Rattle.jobs.proofs.turns.ask.Goals as goal
 
 -- numbers of operations
-is_known : (n : ℕ) → 0 < n → n ≤ 38 → is_known_refusal n ≡ true
+is_known : (n : ℕ) → 0 < n → n ≤ 38 → is_known_operation n ≡ true
 is_known n positive most = λ i. lt-ltb 0 n positive i && le-leb n 38 most i
 
 module _ (j a b c : Job) where
   -- what the operands stand for: x, y and z
-  module _ (known : is_known_refusal j.operation ≡ true) {s : Slots} (is : s ≡ (numbered j.operation).operands) {x y z : Value}
+  module _ (known : is_known_operation j.operation ≡ true) {s : Slots} (is : s ≡ (numbered j.operation).operands) {x y z : Value}
       (first : x ≡ stands_for s.a j.a a) (second : y ≡ stands_for s.b j.b b) (third : z ≡ stands_for s.c j.c c) where
     first-is : x ≡ stands_for (numbered j.operation).operands.a j.a a
     first-is = first ∙ ap (λ (s : Slots). stands_for s.a j.a a) is
