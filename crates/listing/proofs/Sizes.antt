@@ -1,4 +1,4 @@
--- The digits that `io::decimal` writes are those of `decimal`. From `Fewest`, digit by digit.
+-- The digits that `io::decimal` writes are those of `decimal`. From `IsDigitCount`, digit by digit.
 use mathlib.Core.Path.{◌≡◌, refl, sym, ap, subst}
 use mathlib.Core.Bool.{cond}
 use Prim.Native.Nat.{ℕ, zero, suc, ◌-◌, ◌*◌, ◌/◌, ◌^◌, ◌<◌, ◌≤◌}
@@ -32,7 +32,8 @@ one n (suc (suc q)) small F =
     absurd (omega (arith, one-le-pow q 10 (omega arith), low n q F))
 
 -- a number from 10 on has one digit more than its tenth
-several : (S : ℕ → ℕ) (f n r : ℕ) → ((m q : ℕ) → IsDigitCount 10 1 m q → q ≤ suc f → S m ≡ q) → 10 ≤ n → IsDigitCount 10 1 n r → r ≤ suc (suc f) → suc (S (n / 10)) ≡ r
+several : (S : ℕ → ℕ) (f n r : ℕ) → ((m q : ℕ) → IsDigitCount 10 1 m q → q ≤ suc f → S m ≡ q) → 10 ≤ n → IsDigitCount 10 1 n r → r ≤ suc (suc f)
+    → suc (S (n / 10)) ≡ r
 several S f n zero so big F most = absurd (let z = F.0 in omega arith)
 several S f n (suc zero) so big F most = absurd (let z : n < 10 = F.1 in omega arith)
 several S f n (suc (suc q)) so big F most = ap suc (so (n / 10) (suc q) (fewer n q F) (omega arith))

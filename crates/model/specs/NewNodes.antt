@@ -1,4 +1,4 @@
--- The nodes that `new` makes, written out: one a level, lowest first. That `new` makes these is `New-is` of `proofs/New`.
+-- The nodes that `new` makes, written out: one a level, lowest first. That `new` makes these is `new_is` of `proofs/New`.
 use Rattle.std.specs.Prelude.{List, [], ◌∷◌, ◌++◌, ℕ, zero, suc, ◌+◌, ◌*◌}
 use Rattle.model.specs.Store.{Kind, rel, Nodes, handle_of}
 

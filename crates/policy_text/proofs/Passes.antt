@@ -85,7 +85,8 @@ module _ (t : List ℕ) where
   unfolding field_number
   number_next at h = ap field_number (left at (omega arith) ∙ ap (λ (s : List ℕ). get_or t at 0 ∷ s) (left (at + 1) h))
 
-  pub number_two : (at a b : ℕ) → at ≤ length t → (at ≡ length t → ⊥) → (at + 1 ≡ length t → ⊥) → true ≡ is_digit_byte (get_or t (at + 1) 0) → a ≡ get_or t at 0 - 48
+  pub number_two : (at a b : ℕ) → at ≤ length t → (at ≡ length t → ⊥) → (at + 1 ≡ length t → ⊥) → true ≡ is_digit_byte (get_or t (at + 1) 0)
+      → a ≡ get_or t at 0 - 48
       → b ≡ get_or t (at + 1) 0 - 48
       → a * 10 + b ≡ field_number (drop at t)
   number_two at a b h l m d e f = rw (e, f) (sym (number_next at (omega arith)
@@ -136,7 +137,8 @@ module _ (t : List ℕ) where
   pub inside_colon : (at n : ℕ) → at ≤ length t → (at ≡ length t → ⊥) → 0 < n → get_or t at 0 ≡ 58 → is_clean_inside (drop at t) n ≡ false
   inside_colon at n h l k e = inside_next at n (omega arith) k ∙ simp (eq-eqb _ _ e)
 
-  pub inside_star : (at n : ℕ) → at ≤ length t → (at ≡ length t → ⊥) → 0 < n → (get_or t at 0 ≡ 58 → ⊥) → get_or t at 0 ≡ 42 → is_clean_inside (drop at t) n ≡ false
+  pub inside_star : (at n : ℕ) → at ≤ length t → (at ≡ length t → ⊥) → 0 < n → (get_or t at 0 ≡ 58 → ⊥) → get_or t at 0 ≡ 42
+      → is_clean_inside (drop at t) n ≡ false
   inside_star at n h l k f e = inside_next at n (omega arith) k ∙ simp (ne_eqb _ _ f, eq-eqb _ _ e)
 
   pub inside_full : (at n : ℕ) → at ≤ length t → (at ≡ length t → ⊥) → 0 < n → (get_or t at 0 ≡ 58 → ⊥) → (get_or t at 0 ≡ 42 → ⊥) → get_or t at 0 ≡ 84

@@ -59,7 +59,8 @@ table =
     ∷ []
 
 worked : map (λ c. reading x_forms c.0 c.1) table ≡ map (λ c. c.2) table
-unfolding does_x_begin is_x_whole reading reading_of rules first field_number is_no_field is_test open_after is_clean_inside is_clean does_offend reads scan final byte_step
+unfolding does_x_begin is_x_whole reading reading_of rules first field_number is_no_field is_test open_after is_clean_inside is_clean does_offend reads scan
+    final byte_step
     onward
     mid_step mid_go
     after_name close join_seq join_plus join_mix join_term sum_before mix_of negs nesting leaf

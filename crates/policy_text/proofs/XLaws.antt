@@ -9,7 +9,8 @@ use lib.Dec.{leb, eqb}
 use lib.ListN.{length}
 use borrow.Author.Tests.{eqb-true, eqb-false, ne_eqb, le-leb, leb-true}
 use Rattle.policy_text.specs.Lexicon.{unspelt, field, Digit, Letter, Lawful, Bounds}
-use Rattle.policy_text.specs.XForms.{Field, f_zero, f_one, f_two, XForm, x_form, is_digit_byte, has_tens, does_x_begin, is_x_whole, field_number, is_no_field, x_forms}
+use Rattle.policy_text.specs.XForms.{Field, f_zero, f_one, f_two, XForm, x_form, is_digit_byte, has_tens, does_x_begin, is_x_whole, field_number, is_no_field}
+use Rattle.policy_text.specs.XForms.{x_forms}
 
 both : (x y : Bool) → x && y ≡ true → (x ≡ true) × (y ≡ true)
 both true y h = (refl, h)

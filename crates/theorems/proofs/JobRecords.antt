@@ -112,7 +112,8 @@ module _ {X : Type 0} (act : Call → X → Outcome Answer X) where
   rest_beyond n done (j ∷ js) x (suc i) d h = let t = turn_after act n done j x in
       rest_beyond t.left (done ++ (t.job ∷ [])) js t.state i d (left_most n done j x (waiting (take i js)) h)
 
-  rest_runs : (n : ℕ) (done js : List Job) (x : X) (i : ℕ) (d : Job) → i < length js → waiting (take i js) < n → is_waiting (get_or (rest n done js x) i d) ≡ false
+  rest_runs : (n : ℕ) (done js : List Job) (x : X) (i : ℕ) (d : Job) → i < length js → waiting (take i js) < n
+      → is_waiting (get_or (rest n done js x) i d) ≡ false
   unfolding rest waiting
   rest_runs n done [] x i d l h = absurd (omega (arith, l))
   rest_runs n done (j ∷ js) x zero d l h =

@@ -93,7 +93,8 @@ module _ (k : ℕ) (t : List ℕ) (S : Nodes) where
 
   pub builds_kept : (p : Prog) (f : Ran → PolicyAnswer) → text_verdict t k S ≡ runs p f → KeptText p f
   unfolding text_verdict
-  builds_kept p f = by_test (λ b. is_short t ≡ b → pick b (of_reading k t (reading x_forms k t)) (gives (refused TooLong)) ≡ runs p f → KeptText p f) (is_short t)
+  builds_kept p f = by_test (λ b. is_short t ≡ b → pick b (of_reading k t (reading x_forms k t)) (gives (refused TooLong)) ≡ runs p f
+      → KeptText p f) (is_short t)
       (λ s u e. let q = read_builds p f (reading x_forms k t) refl e in
       let r = (keeps_rules x_lawful k (x_bounds k) t).0 q.0 in record {
         keeps = record { short = leb→le (length t) most_bytes (subst T (sym u) tt); rules = r };

@@ -80,7 +80,8 @@ numbers_plain : Plainly 2 2 8 (without_new packet_numbers)
 unfolding in_turn plain_any_step effect plain_step plain_policy_step asked on_lists finishes text_verdict of_reading policy_program
     guard also of_one level_of packet
     run get mk_store mk_handle place having agrees constant identity_at_depth each_field test raise assign new
-    does_x_begin is_x_whole reading reading_of rules first field_number is_no_field is_test open_after is_clean_inside is_clean does_offend reads scan final byte_step onward
+    does_x_begin is_x_whole reading reading_of rules first field_number is_no_field is_test open_after is_clean_inside is_clean does_offend reads scan final
+    byte_step onward
     mid_step mid_go after_name close join_seq join_plus join_mix join_term sum_before mix_of negs nesting leaf tree_of tree
 numbers_plain = refl
 
@@ -89,14 +90,16 @@ texts_plain : Plainly 1 1 3 (without_new faults) × Plainly 1 1 5 (without_new l
 unfolding in_turn plain_any_step effect plain_step plain_policy_step asked on_lists finishes text_verdict of_reading policy_program
     guard also of_one of_pair of_four level_of
     run get mk_store mk_handle place having agrees constant identity_at_depth union each_field test is_zero new op2 node2
-    does_x_begin is_x_whole reading reading_of rules first field_number is_no_field is_test open_after is_clean_inside is_clean does_offend reads scan final byte_step onward
+    does_x_begin is_x_whole reading reading_of rules first field_number is_no_field is_test open_after is_clean_inside is_clean does_offend reads scan final
+    byte_step onward
     mid_step mid_go after_name close join_seq join_plus join_mix join_term sum_before mix_of negs nesting leaf tree_of tree
 texts_plain = (refl, refl, refl, refl)
 
 mixes_plain : Plainly 1 1 4 (without_new mixed_texts)
 unfolding in_turn plain_any_step effect plain_policy_step on_lists finishes text_verdict of_reading policy_program mix_program
     run get mk_store mk_handle place having agrees constant identity_at_depth complement union intersect xor difference sequence new op1 node1 op2 node2
-    does_x_begin is_x_whole reading reading_of rules first field_number is_no_field is_test open_after is_clean_inside is_clean does_offend reads scan final byte_step onward
+    does_x_begin is_x_whole reading reading_of rules first field_number is_no_field is_test open_after is_clean_inside is_clean does_offend reads scan final
+    byte_step onward
     mid_step mid_go after_name close join_seq join_plus join_mix join_term sum_before mix_of negs nesting leaf tree_of tree
 mixes_plain = refl
 

@@ -48,7 +48,8 @@ unfolding in_turn
 mk_reply = ap (reply 6) (worked.added_nodes lent refl refl)
 
 -- EVERY `MK` APPENDS
-pub not_every_mk : ¬ ((M : Memories) (x0 x1 h : ℕ) → (step (set_call (Mk x0 x1)) M).answer ≡ store.Handle h → (its_added (call (set_call (Mk x0 x1))) M).sets ≡ 1)
+pub not_every_mk : ¬ ((M : Memories) (x0 x1 h : ℕ) → (step (set_call (Mk x0 x1)) M).answer ≡ store.Handle h
+    → (its_added (call (set_call (Mk x0 x1))) M).sets ≡ 1)
 unfolding any_step
 not_every_mk f =
     let e : answered (step (set_call (Mk 1 0)) (after 6)).answer ≡ answered (store.Handle 5) = ap (λ r. r.0) mk_reply in

@@ -11,6 +11,7 @@ loop-done-preserved g c =
       long = search rules;
       within = search rules;
       bytes = subst (Consumes _ _)
-          (sym (put_there c.loop-done.done _ n (take n z) c.loop-done.buffer (drop n z) z c.loop-done.invariant.within read.bound.1 (sym (take-append-drop n z))))
+          (sym (put_there c.loop-done.done _ n (take n z) c.loop-done.buffer (drop n z) z c.loop-done.invariant.within read.bound.1
+          (sym (take-append-drop n z))))
           (gives_both _ _ _ _ _ c.loop-done.invariant.bytes read.bytes.0);
     }

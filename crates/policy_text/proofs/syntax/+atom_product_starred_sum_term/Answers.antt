@@ -22,7 +22,8 @@ atom-returns-then-b-eq48 t c = atom_whole _ _ _ _ _ (λ m. negs m Policy.fail) (
 
 pub atom-returns-then-b-eq49 : goal.atom-returns-then-b-eq49
 unfolding byte_step
-atom-returns-then-b-eq49 t c = atom_whole _ _ _ _ _ (λ m. negs m Policy.skip) (omega arith) (λ sa pa m σ. simp (eq-eqb _ _ c.if-b-eq49.true, ne_eqb _ _ c.if-b-eq48.false))
+atom-returns-then-b-eq49 t c = atom_whole _ _ _ _ _ (λ m. negs m Policy.skip) (omega arith)
+    (λ sa pa m σ. simp (eq-eqb _ _ c.if-b-eq49.true, ne_eqb _ _ c.if-b-eq48.false))
 
 pub atom-returns-then-b-eq84 : goal.atom-returns-then-b-eq84
 unfolding byte_step
@@ -53,10 +54,12 @@ pub atom-bounds-text-e : goal.atom-bounds-text-e
 atom-bounds-text-e t c = join_lt _ _ _ _ _ _ c.in-End.ensures c.if-e-text.false
 
 pub atom-returns-then-closes : goal.atom-returns-then-closes
-atom-returns-then-closes t c = paren_closed _ _ _ _ (omega arith) c.if-b-eq40.true c.if-depth-lt32-2.true _ c.in-End.ensures (join_lt _ _ _ _ _ _ c.in-End.ensures c.if-e-text.false) c.if-closes.true
+atom-returns-then-closes t c = paren_closed _ _ _ _ (omega arith) c.if-b-eq40.true c.if-depth-lt32-2.true _ c.in-End.ensures
+    (join_lt _ _ _ _ _ _ c.in-End.ensures c.if-e-text.false) c.if-closes.true
 
 pub atom-returns-then-depth-lt32-2 : goal.atom-returns-then-depth-lt32-2
-atom-returns-then-depth-lt32-2 t c = paren_stops _ _ _ _ (omega arith) c.if-b-eq40.true c.if-depth-lt32-2.true _ c.in-End.ensures (join_lt _ _ _ _ _ _ c.in-End.ensures c.if-e-text.false) c.if-closes.false
+atom-returns-then-depth-lt32-2 t c = paren_stops _ _ _ _ (omega arith) c.if-b-eq40.true c.if-depth-lt32-2.true _ c.in-End.ensures
+    (join_lt _ _ _ _ _ _ c.in-End.ensures c.if-e-text.false) c.if-closes.false
 
 pub atom-returns-then-b-eq40 : goal.atom-returns-then-b-eq40
 atom-returns-then-b-eq40 t c = atom_over _ _ _ _ (omega arith) (inr c.if-b-eq40.true) c.if-depth-lt32-2.false

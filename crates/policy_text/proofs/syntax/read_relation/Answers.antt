@@ -30,7 +30,8 @@ unfolding byte_step mid_step mid_go after_name RelationPost
 returns-then-text-next-eq61 c =
     λ s n d w f. atom_go _ _ d _ (inside (colon n)) _ _ (omega arith)
     (λ sa pa m σ. simp (f (omega arith), w, eq-eqb _ _ c.if-b-eq58.true, ne_eqb _ _ c.if-b-eq61.false))
-    (atom_go _ _ d _ (inside (bit true n)) _ _ (omega arith) (λ sa pa m σ. simp (eq-eqb _ _ c.if-text-next-eq61.true)) (c.read_bit-then-text-next-eq61.ensures true n d))
+    (atom_go _ _ d _ (inside (bit true n)) _ _ (omega arith) (λ sa pa m σ. simp (eq-eqb _ _ c.if-text-next-eq61.true))
+    (c.read_bit-then-text-next-eq61.ensures true n d))
 
 pub returns-then-b-eq58 : goal.returns-then-b-eq58
 unfolding byte_step mid_step mid_go after_name RelationPost
