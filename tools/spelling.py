@@ -4,7 +4,7 @@
     tools/spelling.py            rewrites the files of crates/ and docs/ in place
     tools/spelling.py --list     prints 'OLD NEW' for each name and, after 'clash:', the names that would fall together; writes nothing
 
-It ran once, after /opt/rattle/port/port.py, on what that had made. Renamed are the names that a file of specs/, or one that stands directly in proofs/,
+It ran once, after the kit's port.py, on what that had made. Renamed are the names that a file of specs/, or one that stands directly in proofs/,
 declares: functions, lemmas, fields and constructors. Types, modules, and the names of src/ keep their spelling. A file of a function's proof keeps the names
 that it declares itself, since those are of goals, and each file those that it takes from a library. In comments and pages only what stands between back-quotes is renamed.
 """
@@ -159,27 +159,17 @@ def main(words):
         for path, new, old in clashes(renamed):
             print('clash:', path, new, *old)
         return
-    for path in files('.antt'):
-        text = read(path)
-        new = antt(text, renamed, kept(path, text))
-        if new != text:
-            with open(os.path.join(TOP, path), 'w', encoding='utf-8') as file:
-                file.write(new)
-    for path in files('.rt'):
-        text = read(path)
-        new = source(text, renamed, kept(path, text))
-        if new != text:
-            with open(os.path.join(TOP, path), 'w', encoding='utf-8') as file:
-                file.write(new)
-    for folder, folders, pages in os.walk(os.path.join(TOP, 'docs')):
-        for page in sorted(pages):
-            if page.endswith('.md') and page != 'PORT.md':
-                path = os.path.relpath(os.path.join(folder, page), TOP)
-                text = read(path)
-                new = quoted(text, renamed)
-                if new != text:
-                    with open(os.path.join(TOP, path), 'w', encoding='utf-8') as file:
-                        file.write(new)
+    pages = [os.path.relpath(os.path.join(folder, page), TOP) for folder, _, found in os.walk(os.path.join(TOP, 'docs')) for page in sorted(found)]
+    turns = [(list(files('.antt')), lambda path, text: antt(text, renamed, kept(path, text))),
+             (list(files('.rt')), lambda path, text: source(text, renamed, kept(path, text))),
+             ([page for page in pages if page.endswith('.md') and not page.endswith('PORT.md')], lambda path, text: quoted(text, renamed))]
+    for paths, turn in turns:
+        for path in paths:
+            text = read(path)
+            new = turn(path, text)
+            if new != text:
+                with open(os.path.join(TOP, path), 'w', encoding='utf-8') as file:
+                    file.write(new)
 
 
 if __name__ == '__main__':

@@ -10,23 +10,23 @@ use Rattle.policy_text.specs.Machine.{mix_of}
 use Rattle.policy_build.proofs.mixed.Goals as goal
 
 module _ (b k x y : ℕ) where
-  is-both : b ≡ 38 → mix_program (mix_of b) k x y ≡ intersect rel k x y
+  is_both : b ≡ 38 → mix_program (mix_of b) k x y ≡ intersect rel k x y
   unfolding mix_of mix_program
-  is-both e = simp (eq-eqb b 38 e)
+  is_both e = simp (eq-eqb b 38 e)
 
-  is-minus : b ≡ 45 → mix_program (mix_of b) k x y ≡ difference rel k x y
+  is_minus : b ≡ 45 → mix_program (mix_of b) k x y ≡ difference rel k x y
   unfolding mix_of mix_program
-  is-minus e = ap (λ b. mix_program (mix_of b) k x y) e
+  is_minus e = ap (λ b. mix_program (mix_of b) k x y) e
 
-  is-either : (b ≡ 38 → ⊥) → (b ≡ 45 → ⊥) → mix_program (mix_of b) k x y ≡ xor rel k x y
+  is_either : (b ≡ 38 → ⊥) → (b ≡ 45 → ⊥) → mix_program (mix_of b) k x y ≡ xor rel k x y
   unfolding mix_of mix_program
-  is-either e f = simp (ne_eqb b 38 e, ne_eqb b 45 f)
+  is_either e f = simp (ne_eqb b 38 e, ne_eqb b 45 f)
 
 pub returns-then-sign-eq38 : goal.returns-then-sign-eq38
-returns-then-sign-eq38 c = performs_by (is-both _ _ _ _ c.if-sign-eq38.true) c.intersect.ensures
+returns-then-sign-eq38 c = performs_by (is_both _ _ _ _ c.if-sign-eq38.true) c.intersect.ensures
 
 pub returns-then-sign-eq45 : goal.returns-then-sign-eq45
-returns-then-sign-eq45 c = performs_by (is-minus _ _ _ _ c.if-sign-eq45.true) c.difference.ensures
+returns-then-sign-eq45 c = performs_by (is_minus _ _ _ _ c.if-sign-eq45.true) c.difference.ensures
 
 pub returns : goal.returns
-returns c = performs_by (is-either _ _ _ _ c.if-sign-eq38.false c.if-sign-eq45.false) c.xor.ensures
+returns c = performs_by (is_either _ _ _ _ c.if-sign-eq38.false c.if-sign-eq45.false) c.xor.ensures

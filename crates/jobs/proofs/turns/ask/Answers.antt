@@ -21,21 +21,21 @@ module _ (j a b c : Job) where
   -- what the operands stand for: x, y and z
   module _ (known : is_known_operation j.operation ≡ true) {s : Slots} (is : s ≡ (numbered j.operation).operands) {x y z : Value}
       (first : x ≡ stands_for s.a j.a a) (second : y ≡ stands_for s.b j.b b) (third : z ≡ stands_for s.c j.c c) where
-    first-is : x ≡ stands_for (numbered j.operation).operands.a j.a a
-    first-is = first ∙ ap (λ (s : Slots). stands_for s.a j.a a) is
+    first_is : x ≡ stands_for (numbered j.operation).operands.a j.a a
+    first_is = first ∙ ap (λ (s : Slots). stands_for s.a j.a a) is
 
     second_is : y ≡ stands_for (numbered j.operation).operands.b j.b b
     second_is = second ∙ ap (λ (s : Slots). stands_for s.b j.b b) is
 
-    third-is : z ≡ stands_for (numbered j.operation).operands.c j.c c
-    third-is = third ∙ ap (λ (s : Slots). stands_for s.c j.c c) is
+    third_is : z ≡ stands_for (numbered j.operation).operands.c j.c c
+    third_is = third ∙ ap (λ (s : Slots). stands_for s.c j.c c) is
 
     valued : with_values (numbered j.operation) x y z ≡ asks j a b c
     unfolding asks
-    valued = rw known (λ i. with_values (numbered j.operation) (first-is i) (second_is i) (third-is i))
+    valued = rw known (λ i. with_values (numbered j.operation) (first_is i) (second_is i) (third_is i))
 
-    no-first : x ≡ Missing → refuses 11 ≡ asks j a b c
-    no-first e = sym (ap (λ (v : Value). with_values (numbered j.operation) v y z) e) ∙ valued
+    no_first : x ≡ Missing → refuses 11 ≡ asks j a b c
+    no_first e = sym (ap (λ (v : Value). with_values (numbered j.operation) v y z) e) ∙ valued
 
     no_second : {p : ℕ} → x ≡ Is p → y ≡ Missing → refuses 11 ≡ asks j a b c
     no_second e f = sym (λ i. with_values (numbered j.operation) (e i) (f i) z) ∙ valued
@@ -49,7 +49,7 @@ module _ (j a b c : Job) where
 pub returns-in_default : goal.returns-in_default
 returns-in_default c =
     let args = c.args in
-    no-first args.job args.a args.b args.c (is_known args.job.operation (omega arith) (omega arith)) c.operands-slots.ensures
+    no_first args.job args.a args.b args.c (is_known args.job.operation (omega arith) (omega arith)) c.operands-slots.ensures
     c.stands_for-x.ensures c.stands_for-y.ensures c.stands_for-z.ensures c.in_default.is
 
 pub returns-in_default-y : goal.returns-in_default-y

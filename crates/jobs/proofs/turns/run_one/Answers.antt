@@ -40,10 +40,10 @@ module _ (n : ℕ) (j a b c : Job) (M : Memories) (w : List ℕ) {x y v : List �
     zeros_stay = λ z. v-is ∙ zero z;
   }
 
-  ran-one : {x' y' v' : List ℕ} {r' : Job} {asked : Asks} → 0 < n → j.kind ≡ 0 → asked ≡ asks j a b c
+  ran_one : {x' y' v' : List ℕ} {r' : Job} {asked : Asks} → 0 < n → j.kind ≡ 0 → asked ≡ asks j a b c
       → CarriesOut j asked M (memories x' y') w v' r' → x ≡ x' → y ≡ y' → v ≡ v' → r ≡ r' → l ≡ n - 1
       → TakesTurn n j a b c M (memories x y) w v (record { job = r; tally = record { left = l; held = h } })
-  ran-one more waits is out =
+  ran_one more waits is out =
       met (ap (ran n) out.outcome_is ∙ ap (λ (s : Asks). ran n (carried_out step j s M)) is ∙ sym (runs n j a b c M more waits)) out.zeros_stay
 
   passed_over : turn j n M ≡ take_turn step n j a b c M → x ≡ M.relations → y ≡ M.sets → v ≡ w → r ≡ j → l ≡ n
@@ -58,7 +58,7 @@ returns c =
     let held = c.held.ensures in
     elim c.if-left-gt0.branch [
       | then-left-gt0+then-job-eq0 w ↦
-          ran-one n args.job args.a args.b args.c M args.work.now held w.if-left-gt0.true w.if-job-eq0.true w.ask.ensures w.carry_out-after.ensures
+          ran_one n args.job args.a args.b args.c M args.work.now held w.if-left-gt0.true w.if-job-eq0.true w.ask.ensures w.carry_out-after.ensures
           w.relations-is w.sets-is w.work-is w.after-is w.left-is
       | then-left-gt0+else-job-eq0 w ↦
           passed_over n args.job args.a args.b args.c M args.work.now held

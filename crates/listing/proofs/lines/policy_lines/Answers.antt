@@ -22,8 +22,8 @@ loop-from-preserved c =
 
 pub returns : goal.returns
 returns c =
-    let l0 = c.loop-from in
-    let l = l0.invariant in record {
-      text = l.5 ∙ no_more l0.i (memories l0.relations c.args.sets.now) l0.at l0.out c.args.input.now l0.from (omega arith);
+    let now = c.loop-from in
+    let l = now.invariant in record {
+      text = l.5 ∙ no_more now.i (memories now.relations c.args.sets.now) now.at now.out c.args.input.now now.from (omega arith);
       few = omega arith;
     }

@@ -1,3 +1,4 @@
+-- A read puts at the end of what is there what the reader gives next, so that both together are what it has given (`Filling`).
 use Rattle.std.proofs.Common.{rules, take, drop, sym, subst, take-append-drop}
 use Rattle.std.specs.Io.KnownBytes.{Consumes}
 use Rattle.listing.proofs.Filling.{gives_both, put_there}

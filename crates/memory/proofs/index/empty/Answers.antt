@@ -4,6 +4,7 @@ use Rattle.memory.proofs.Emptying.{index_empty}
 use Rattle.memory.proofs.index.empty.Goals as goal
 
 pub returns : goal.returns
-returns c = let size = c.memo_size-m in
+returns c =
+    let size = c.memo_size-m in
     index_empty c.args.work.now _ size.result size.ensures.0 (omega arith)
     c.clear.ensures

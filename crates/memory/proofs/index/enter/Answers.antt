@@ -6,7 +6,8 @@ use Rattle.memory.proofs.Rows.{row_part}
 use Rattle.memory.proofs.index.enter.Goals as goal
 
 pub returns : goal.returns
-returns c = let link = c.link in
+returns c =
+    let link = c.link in
     let hash = c.hash-b in
     let size = c.memo_size-at in
     let args = c.args in

@@ -13,7 +13,8 @@ step : (m x m' : List ℕ) (b j : ℕ) → b + j < length m → j < length x →
 step m x m' b j h g e = ap (λ l. set l (b + j) (get_or x j 0)) e ∙ paste-suc m b x j 0 h g ∙ ap (paste m b x) (sym (add-one j))
 
 pub loop-j-preserved : goal.loop-j-preserved
-loop-j-preserved c = let a = c.args in
+loop-j-preserved c =
+    let a = c.args in
     let b = length a.x.now * a.n in
     let j = c.loop-j.j in
     let e = step a.nodes.now a.x.now _ b j (omega arith) (omega arith) c.loop-j.invariant.2 in

@@ -5,7 +5,8 @@ use Rattle.memory.proofs.Entries.{hit}
 use Rattle.memory.proofs.memo.known.Goals as goal
 
 pub returns-then-v-ne0 : goal.returns-then-v-ne0
-returns-then-v-ne0 c = let i = c.window-i.result in
+returns-then-v-ne0 c =
+    let i = c.window-i.result in
     let room = c.fits.ensures.yes (c.if-not-fits.false) in
     λ S R p. let e = c.entry-v.ensures p in
     hit c.args.work.now S i c.args.op c.args.level c.args.a c.args.b _ c.requires room.0 room.1
@@ -14,7 +15,8 @@ returns-then-v-ne0 c = let i = c.window-i.result in
     (e.2 ∙ c.key-key.ensures) p R
 
 pub returns : goal.returns
-returns c = let i = c.window-i.result in
+returns c =
+    let i = c.window-i.result in
     let j = c.slot-j.result in
     let room = c.fits.ensures.yes (c.if-not-fits.false) in
     λ S R p. let e = c.entry.ensures p in

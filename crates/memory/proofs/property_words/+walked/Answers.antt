@@ -31,7 +31,8 @@ pub returns-then-level-eq0 : goal.returns-then-level-eq0
 returns-then-level-eq0 t c = λ K w a. record { knows = λ k B n r F W A. zero_has K _ _ _ _ c.if-level-eq0.true c.constant_word.ensures A }
 
 pub returns : goal.returns
-returns t c = let s = c.args in
+returns t c =
+    let s = c.args in
     let x = c.child_of-x.result in
     let p = c.properties_in-p in
     let pos : 0 < s.level = omega (arith, c.if-level-eq0.false) in

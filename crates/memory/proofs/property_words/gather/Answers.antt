@@ -7,7 +7,8 @@ use Rattle.memory.proofs.Known.{is_set, gathers_in}
 use Rattle.memory.proofs.property_words.gather.Goals as goal
 
 pub returns-then-x-eq2 : goal.returns-then-x-eq2
-returns-then-x-eq2 c = let a = c.args in
+returns-then-x-eq2 c =
+    let a = c.args in
     λ K z. is_set (λ K. Gathers K (Words a.work.now) a.x.now c.set_word.result)
     (gathers_in a.work.now a.x.now c.words_start-s.result c.words_end-e.result _
     (c.words_start-s.ensures.0 set (omega arith))

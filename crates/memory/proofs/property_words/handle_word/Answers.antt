@@ -20,7 +20,8 @@ pub returns-then-h-lt2 : goal.returns-then-h-lt2
 returns-then-h-lt2 c = λ K k S e F W. known_constant K S _ _ c.if-h-lt2.true (λ p. c.constant_word.ensures)
 
 pub returns-then-h-eq1 : goal.returns-then-h-eq1
-returns-then-h-eq1 c = let a = c.args in
+returns-then-h-eq1 c =
+    let a = c.args in
     let v = get_or a.words.now c.place_of-i.result 0 in
     λ K k S e F W. is_set (λ (K : Kind). Known K S (handle_of K 0 (index K a.h)) v → Known K S a.h c.opposite_word.result)
     (λ o. subst (λ (g : ℕ). Known set S g c.opposite_word.result) (omega arith)
@@ -28,13 +29,15 @@ returns-then-h-eq1 c = let a = c.args in
     K (omega arith) (placed K S a.words.now a.h _ (c.place_of-i.ensures K e) (omega arith) W)
 
 pub returns-else-h-eq1 : goal.returns-else-h-eq1
-returns-else-h-eq1 c = let a = c.args in
+returns-else-h-eq1 c =
+    let a = c.args in
     let v = get_or a.words.now c.place_of-i.result 0 in
     λ K k S e F W. subst (λ (g : ℕ). Known K S g v) (is_set (λ (K : Kind). handle_of K 0 (index K a.h) ≡ a.h) (omega arith) K (omega arith))
     (placed K S a.words.now a.h _ (c.place_of-i.ensures K e) (omega arith) W)
 
 pub returns-else-c-eq2 : goal.returns-else-c-eq2
-returns-else-c-eq2 c = let a = c.args in
+returns-else-c-eq2 c =
+    let a = c.args in
     let v = get_or a.words.now c.place_of-i.result 0 in
     λ K k S e F W. subst (λ (g : ℕ). Known K S g v)
     (is_rel (λ (K : Kind). handle_of K 0 (index K a.h) ≡ a.h) _ c.if-c-eq2.false (omega arith) K e)

@@ -7,7 +7,8 @@ use Rattle.memory.proofs.Walks.{level_within, identity_off, identity_on, identit
 use Rattle.memory.proofs.property_words.is_identity.Goals as goal
 
 pub returns-then-child_of-x01 : goal.returns-then-child_of-x01
-returns-then-child_of-x01 c = let s = c.args in
+returns-then-child_of-x01 c =
+    let s = c.args in
     let pos = c.requires in
     λ k B n a r F A e q.
     let w = level_within rel (plain rel B s.nodes.now n) s.level s.h pos A in
@@ -15,14 +16,16 @@ returns-then-child_of-x01 c = let s = c.args in
     (c.child_of.ensures rel B n refl r w) c.if-child_of-x01.true)
 
 pub returns-then-child_of-x00 : goal.returns-then-child_of-x00
-returns-then-child_of-x00 c = let s = c.args in
+returns-then-child_of-x00 c =
+    let s = c.args in
     let pos = c.requires in
     λ k B n a r F A e q.
     let w = level_within rel (plain rel B s.nodes.now n) s.level s.h pos A in
     sym (identity_on s.level s.h F pos A e (c.child_of-2.ensures rel B n refl r w) c.if-child_of-x00.true)
 
 pub returns-then-not-walks_to : goal.returns-then-not-walks_to
-returns-then-not-walks_to c = let s = c.args in
+returns-then-not-walks_to c =
+    let s = c.args in
     let pos = c.requires in
     λ k B n a r F A e q.
     let w = level_within rel (plain rel B s.nodes.now n) s.level s.h pos A in
@@ -31,7 +34,8 @@ returns-then-not-walks_to c = let s = c.args in
     sym (identity_some s.level s.h F pos A e1 (c.walks_to.ensures rel k B n refl r F x) (c.if-not-walks_to.true))
 
 pub returns : goal.returns
-returns c = let s = c.args in
+returns c =
+    let s = c.args in
     let pos = c.requires in
     λ k B n a r F A e q.
     let w = level_within rel (plain rel B s.nodes.now n) s.level s.h pos A in

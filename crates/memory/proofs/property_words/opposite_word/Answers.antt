@@ -8,6 +8,7 @@ use Rattle.memory.specs.declared.Properties.{Properties}
 use Rattle.memory.proofs.property_words.opposite_word.Goals as goal
 
 pub returns : goal.returns
-returns c k S h F W = let e = c.properties_in-r.ensures in
+returns c k S h F W =
+    let e = c.properties_in-r.ensures in
     known_other k S h c.args.v _ (omega arith)
     (λ p. c.word_of.ensures.0 p ∙ ap (λ (r : Properties). properties r.universal r.empty false r.level) e) F W

@@ -6,7 +6,8 @@ use Rattle.memory.proofs.Walks.{level_within, walks_apart, walks_next, walks_end
 use Rattle.memory.proofs.property_words.walks_to.Goals as goal
 
 pub returns-then-not-children_are : goal.returns-then-not-children_are
-returns-then-not-children_are c = let l = c.loop-l in
+returns-then-not-children_are c =
+    let l = c.loop-l in
     let s = c.args in
     λ K k B n a r F A.
     let i = l.invariant.1 K k B n a r F A in
@@ -15,7 +16,8 @@ returns-then-not-children_are c = let l = c.loop-l in
     (c.children_are.ensures K B n a r w) (c.if-not-children_are.true))
 
 pub loop-l-preserved : goal.loop-l-preserved
-loop-l-preserved c = let l = c.loop-l in
+loop-l-preserved c =
+    let l = c.loop-l in
     let s = c.args in (
       omega arith,
       λ K k B n a r F A.
@@ -27,6 +29,7 @@ loop-l-preserved c = let l = c.loop-l in
     )
 
 pub returns : goal.returns
-returns c = let l = c.loop-l in
+returns c =
+    let l = c.loop-l in
     let s = c.args in
     λ K k B n a r F A. sym ((l.invariant.1 K k B n a r F A).1 ∙ walks_end K (plain K B s.nodes.now n) l.l l.g s.v (omega arith))

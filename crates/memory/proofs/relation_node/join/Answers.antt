@@ -15,16 +15,17 @@ use Rattle.memory.proofs.Joining.{failed, joins_found, joins_full, joins_new}
 use Rattle.memory.proofs.relation_node.join.Goals as goal
 
 -- a node of four numbers is a relation's
-of-relation : (x : List ℕ) (n : ℕ) (w w' : List ℕ) → Noted rel x n w w' → (K : Kind) → 4 ≡ arity K → Noted K x n w w'
-of-relation x n w w' N rel e = N
-of-relation x n w w' N set e = absurd (omega arith)
+of_relation : (x : List ℕ) (n : ℕ) (w w' : List ℕ) → Noted rel x n w w' → (K : Kind) → 4 ≡ arity K → Noted K x n w w'
+of_relation x n w w' N rel e = N
+of_relation x n w w' N set e = absurd (omega arith)
 
 -- the bucket of the node that was put is that of its numbers
-bucket-there : (m m' x : List ℕ) (n : ℕ) → length x ≡ 4 → n < places 4 m → m' ≡ paste m (4 * n) x 4 → bucket x ≡ bucket (row 4 m' n)
-bucket-there m m' x n z l p = sym (ap (λ M. bucket (row 4 M n)) p ∙ ap bucket (paste_row 4 n m x z (place_fits 4 m n l)))
+bucket_there : (m m' x : List ℕ) (n : ℕ) → length x ≡ 4 → n < places 4 m → m' ≡ paste m (4 * n) x 4 → bucket x ≡ bucket (row 4 m' n)
+bucket_there m m' x n z l p = sym (ap (λ M. bucket (row 4 M n)) p ∙ ap bucket (paste_row 4 n m x z (place_fits 4 m n l)))
 
 pub returns-then-i-n : goal.returns-then-i-n
-returns-then-i-n c = let a = c.args in
+returns-then-i-n c =
+    let a = c.args in
     let x = a.x00 ∷ a.x01 ∷ a.x10 ∷ a.x11 ∷ [] in
     let chase = c.chase-i in
     record {
@@ -34,7 +35,8 @@ returns-then-i-n c = let a = c.args in
     }
 
 pub returns-then-n-p-2 : goal.returns-then-n-p-2
-returns-then-n-p-2 c = let a = c.args in
+returns-then-n-p-2 c =
+    let a = c.args in
     let x = a.x00 ∷ a.x01 ∷ a.x10 ∷ a.x11 ∷ [] in
     let chase = c.chase-i in
     let l : places 4 a.nodes.now ≤ a.s.n = omega (arith, c.places_of-p.ensures) in
@@ -43,7 +45,8 @@ returns-then-n-p-2 c = let a = c.args in
     (λ good ix. chase.ensures good c.memo_size-at.ensures.0 ix) (λ h. omega arith) l)
 
 pub returns : goal.returns
-returns c = let a = c.args in
+returns c =
+    let a = c.args in
     let m = a.nodes.now in
     let n = a.s.n in
     let x = a.x00 ∷ a.x01 ∷ a.x10 ∷ a.x11 ∷ [] in
@@ -53,6 +56,6 @@ returns c = let a = c.args in
       small = omega (arith, c.places_of-p.ensures);
       node = λ K y z e. joins_new y x (not-false _ c.if-not-s.false) z e c.chase-i.result
           (λ good ix. c.chase-i.ensures good at ix) _ _ _ (λ h. omega arith) l c.put.ensures
-          (of-relation x n _ _ c.note.ensures) (c.link.ensures _ (at ∙ ap memo_size (sym c.note.auto.work))
-          (c.bucket-b.ensures.0 ∙ bucket-there m _ x n refl l c.put.ensures));
+          (of_relation x n _ _ c.note.ensures) (c.link.ensures _ (at ∙ ap memo_size (sym c.note.auto.work))
+          (c.bucket-b.ensures.0 ∙ bucket_there m _ x n refl l c.put.ensures));
     }

@@ -4,5 +4,6 @@ use Rattle.model.specs.Store.{rel}
 use Rattle.memory.proofs.relation_node.note.Goals as goal
 
 pub returns : goal.returns
-returns c = let gathered = c.gather_relation-v in
+returns c =
+    let gathered = c.gather_relation-v in
     record { word = gathered.result; known = gathered.ensures.known; written = c.write.ensures rel refl }

@@ -1,3 +1,4 @@
+-- The value of no digits is 0, and one digit more is one more in the value (`Spelling`).
 use Rattle.std.proofs.Common.{arith}
 use Rattle.replay.proofs.Spelling.{spelt_none, spelt_more}
 use Rattle.replay.proofs.lines.read_number.Goals as goal

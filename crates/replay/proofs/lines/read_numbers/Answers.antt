@@ -1,3 +1,4 @@
+-- A number read is one more of the row, and at the end of the line the row has all (`Reading`).
 use Rattle.std.proofs.Common.{◌<◌, arith, length, ◌∙◌, length-set}
 use Rattle.replay.proofs.Reading.{one_more, all_read}
 use Rattle.replay.proofs.lines.read_numbers.Goals as goal

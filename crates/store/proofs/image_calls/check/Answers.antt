@@ -10,12 +10,12 @@ use Rattle.store.specs.declared.image_calls.ImageCall.{ImageCall}
 use Rattle.call_rules.proofs.TwoKinds.{checks_relations}
 use Rattle.store.proofs.image_calls.check.Goals as goal
 
-of-call : {o t : List ℕ} {n j k : ℕ} {r : Check} {a b : ImageCall} → a ≡ b → ChecksBoth o n t j k (λ S. image_declines k b S) r
+of_call : {o t : List ℕ} {n j k : ℕ} {r : Check} {a b : ImageCall} → a ≡ b → ChecksBoth o n t j k (λ S. image_declines k b S) r
     → ChecksBoth o n t j k (λ S. image_declines k a S) r
-of-call {o} {t} {n} {j} {k} {r} e C = subst (λ c. ChecksBoth o n t j k (λ S. image_declines k c S) r) (sym e) C
+of_call {o} {t} {n} {j} {k} {r} e C = subst (λ c. ChecksBoth o n t j k (λ S. image_declines k c S) r) (sym e) C
 
 pub returns-in-Fwd : goal.returns-in-Fwd
-returns-in-Fwd c = of-call c.in-Fwd.is (checks_relations _ _ _ _ _ (c.one.ensures rel refl))
+returns-in-Fwd c = of_call c.in-Fwd.is (checks_relations _ _ _ _ _ (c.one.ensures rel refl))
 
 pub returns-in-Bwd : goal.returns-in-Bwd
-returns-in-Bwd c = of-call c.in-Bwd.is (checks_relations _ _ _ _ _ (c.one-in-Bwd.ensures rel refl))
+returns-in-Bwd c = of_call c.in-Bwd.is (checks_relations _ _ _ _ _ (c.one-in-Bwd.ensures rel refl))

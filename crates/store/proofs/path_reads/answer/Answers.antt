@@ -13,16 +13,16 @@ use Rattle.store.specs.declared.path_reads.PathRead.{PathRead}
 use Rattle.call_rules.proofs.Reading.{reads_truth}
 use Rattle.store.proofs.path_reads.answer.Goals as goal
 
-of-call : {Q : Condition} {m w : List ℕ} {n : ℕ} (l : ℕ) {r : Answer} {a b : PathRead} → a ≡ b
+of_call : {Q : Condition} {m w : List ℕ} {n : ℕ} (l : ℕ) {r : Answer} {a b : PathRead} → a ≡ b
     → AnsweredOn Q set m w n (λ S. PathSafe S l b) (λ S. path_answer S l b) r → AnsweredOn Q set m w n (λ S. PathSafe S l a) (λ S. path_answer S l a) r
-of-call {Q} {m} {w} {n} l {r} e A = subst (λ c. AnsweredOn Q set m w n (λ S. PathSafe S l c) (λ S. path_answer S l c) r) (sym e) A
+of_call {Q} {m} {w} {n} l {r} e A = subst (λ c. AnsweredOn Q set m w n (λ S. PathSafe S l c) (λ S. path_answer S l c) r) (sym e) A
 
 pub returns-in-HasImage : goal.returns-in-HasImage
-returns-in-HasImage c j = of-call _ c.in-HasImage.is (reads_truth (has_image_read_only _ _ _) (λ S s. s) (λ S. refl) (c.has_image-r.ensures j))
+returns-in-HasImage c j = of_call _ c.in-HasImage.is (reads_truth (has_image_read_only _ _ _) (λ S s. s) (λ S. refl) (c.has_image-r.ensures j))
 
 pub returns-in-HasPath : goal.returns-in-HasPath
 returns-in-HasPath c j =
-    of-call _ c.in-HasPath.is (reads_truth (has_path_read_only _ _ _ _) (λ S s. s) (λ S. refl) (c.has_path-r.ensures j))
+    of_call _ c.in-HasPath.is (reads_truth (has_path_read_only _ _ _ _) (λ S s. s) (λ S. refl) (c.has_path-r.ensures j))
 
 pub returns-in-FirstPath : goal.returns-in-FirstPath
-returns-in-FirstPath c j = of-call _ c.in-FirstPath.is (c.first_path.ensures j)
+returns-in-FirstPath c j = of_call _ c.in-FirstPath.is (c.first_path.ensures j)
