@@ -3,10 +3,12 @@
 
     cat LISTING.. | tools/callees.py FUNCTION [CHECK..]
 
-A LISTING is what the compiler made of a crate: toolchain/mir.json in the library that `rt lib` writes. Reads those of all crates whose functions may run and
-prints a line for each function that FUNCTION runs, itself first: its name, `(loop)` where it has one, and the functions that it calls. A CHECK has no line,
+A LISTING is what the compiler made of a crate: toolchain/mir.json in the library that `rt lib` writes, and in those of the kit. Reads those of all crates whose
+functions may run and prints a line for each function that FUNCTION runs, itself first: its name, `(loop)` where it has one, and the functions that it calls. A CHECK has no line,
 nor has what runs only inside it. Ends with 1 where a function that has a line calls itself, directly or through others, and prints by which calls; with 2
 where it cannot tell: a function without a body in the listings, one that is called by a pointer, or a CHECK that is never run.
+
+A method that is called through a bound is that of the `impl` which the callers hand down for it.
 
 Where the program's text fixes a value's variant, as of `RelationRead::Relates(..)` handed down from function to function, a `match` on it counts with
 the arm of that variant; any other `match` or `if` counts with all its branches.
@@ -59,8 +61,14 @@ class Body:
 
 
 def functions_of(listings):
-    """name -> the number of its parameters, which are the locals from 1 on, and its body; a listing is one line"""
-    return {name: (function['params'], Body(function['body'])) for listing in listings for name, function in json.loads(listing)}
+    """name -> the number of its parameters, which are the locals from 1 on, and the terms of its body; and of each `impl` that a function may hand down its
+    methods in their order; a listing is one line"""
+    functions, methods = {}, {}
+    for listing in listings:
+        for name, function in json.loads(listing):
+            functions[name] = function['params'], function['body']
+            methods.update((impl['name'], impl['methods']) for impl in function['generics']['impls'])
+    return functions, methods
 
 
 # What a function calls, where the variants of some parameters are known.
@@ -82,36 +90,62 @@ def variants_in(body, parameters, given):
     return {local: variant for local, variant in known.items() if local not in lent}
 
 
-def calls_in(body, known):
-    """the functions called, each with the variants of its parameters that are known"""
+def handed(bounds, given):
+    """what stands for the bounds of a callee, each an `impl` with what stands for its own: `given` has that of the caller's bounds"""
+    stand = []
+    for bound in bounds:
+        kind, holds = named(bound)
+        if kind == 'Given':
+            stand.append(given[holds])
+        elif kind == 'Impl':
+            stand.append((holds[0], handed(holds[2], given)))
+        else:
+            raise Unclear(f'a bound is met by a {kind}')
+    return tuple(stand)
+
+
+def callee_of(callee, given, methods):
+    """the function called, and what stands for its bounds"""
+    kind, holds = named(callee)
+    if kind == 'Fn':
+        return holds[0], handed(holds[1]['dicts'], given)
+    if kind == 'Method':
+        (impl, own), = handed(holds[:1], given)
+        if impl not in methods:
+            raise Unclear(f'{impl} has no methods in the listings')
+        return methods[impl][holds[1]], own + handed(holds[2]['dicts'], given)
+    raise Unclear('a function is called by a pointer')
+
+
+def calls_in(body, known, given, methods):
+    """the functions called, each with what stands for its bounds and the variants of its parameters that are known"""
     for kind, holds in body.running(known):
         if kind == 'Call':
             callee, operands, _ = holds
-            if 'Fn' not in callee:
-                raise Unclear('a function is called by a pointer')
             places = {at: operand['Copy'] for at, operand in enumerate(operands, 1) if 'Copy' in operand}
-            yield callee['Fn'][0], {at: known[place['local']] for at, place in places.items() if not place['steps'] and place['local'] in known}
+            yield (*callee_of(callee, given, methods), {at: known[place['local']] for at, place in places.items() if not place['steps'] and place['local'] in known})
 
 
 # What a function runs.
 
-def graph(functions, root, checks=()):
+def graph(functions, methods, root, checks=()):
     """function -> the functions that it calls, of all that the root runs without entering a check; and which of them have a loop"""
     calls, loops = {}, set()
-    seen, rest = [], [(root, {})]
+    seen, rest = [], [(root, (), {})]
     while rest:
-        name, given = rest.pop(0)
-        if name in checks or (name, given) in seen:
+        name, bounds, variants = rest.pop(0)
+        if name in checks or (name, bounds, variants) in seen:
             continue
-        seen.append((name, given))
+        seen.append((name, bounds, variants))
         if name not in functions:
             raise Unclear(f'{name} has no body in the listings')
-        parameters, body = functions[name]
-        known = variants_in(body, parameters, given)
+        parameters, terms = functions[name]
+        body = Body(terms)
+        known = variants_in(body, parameters, variants)
         if any(kind == 'Loop' for kind, _ in body.running(known)):
             loops.add(name)
-        called = list(calls_in(body, known))
-        calls.setdefault(name, {}).update((callee, None) for callee, _ in called)
+        called = list(calls_in(body, known, bounds, methods))
+        calls.setdefault(name, {}).update((callee, None) for callee, _, _ in called)
         rest.extend(called)
     for name in checks:
         if not any(name in called for called in calls.values()):
@@ -134,11 +168,11 @@ def way_back(name, calls):
 
 
 def main(root, checks):
-    functions = functions_of(sys.stdin)
-    calls, loops = graph(functions, root, checks)
+    functions, methods = functions_of(sys.stdin)
+    calls, loops = graph(functions, methods, root, checks)
     for name, called in calls.items():
         print(name + (' (loop)' if name in loops else '') + (': ' if called else '') + ', '.join(called))
-    with_checks, _ = graph(functions, root)
+    with_checks, _ = graph(functions, methods, root)
     found = [way for way in (way_back(name, with_checks) for name in calls) if way]
     for way in found:
         print('calls itself: ' + ' -> '.join(way))

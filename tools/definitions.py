@@ -24,7 +24,7 @@ import sys
 
 ROOT = os.path.dirname(os.path.dirname(os.path.abspath(__file__)))
 BEGIN, END = "<!-- definitions: begin, written by tools/definitions.py --write -->", "<!-- definitions: end -->"
-LANGUAGE = set("Type Unit ⊥ ¬ × → λ let in record where = : _ result".split())
+LANGUAGE = set("Type Unit tt ⊥ ¬ × → λ let in record where = : _ result".split())
 
 # The claims in the page's order: the name there, and the statement, `*` being each field of a record; several must rest on the same but for themselves.
 CLAIMS = [

@@ -1,18 +1,18 @@
 -- Nodes counted before and after a call: what a function says that returns the difference beside its answer.
-use mathlib.Core.Path.{◌≡◌, refl, sym, ap, ◌∙◌}
+use mathlib.Core.Path.{◌≡◌, refl, ap, ◌∙◌}
 use mathlib.Core.Bool.{false}
 use mathlib.Core.List.{List}
 use Prim.Native.Nat.{ℕ, ◌-◌}
 use native.Mathlib.Omega.{arith}
 use lib.Dec.{eqb}
-use Rattle.model.specs.Store.{pick}
 use Rattle.store_check.specs.Memory.{Memories}
 use Rattle.call_rules.specs.Added.{node_counts, held_in, less, counted, new_counted}
 use Rattle.call_rules.specs.Answers.{refusal_number}
 use Rattle.call_rules.specs.Outcome.{Outcome, outcome, map_answer}
 use Rattle.call_rules.specs.Promise.{Meets, Replies}
 use Rattle.call_rules.specs.declared.Answer.{Answer}
-use Rattle.call_rules.specs.declared.Answer.TheVariants.{Handle, Declined}
+use Rattle.call_rules.specs.declared.Answer.TheVariants.{Handle}
+use Rattle.std.specs.Prelude.{Result, Ok}
 use Rattle.call_rules.specs.declared.Refusal.{Refusal}
 use Rattle.call_rules.specs.declared.Refusal.TheVariants.{NotStore, NotHeld, LevelsDiffer, NoChildren, OutOfRange, UsedUp, TooLong}
 use Rattle.call_rules.specs.declared.added.NodeCounts.{NodeCounts}
@@ -44,9 +44,6 @@ never_zero UsedUp = refl
 never_zero TooLong = refl
 
 -- `new`: declined, it adds nothing; accepted, all that is held
-module _ {X : Type 0} (held : X → NodeCounts) {t : Outcome Answer X} {x : X} where
-  pub new_declined : (r : Refusal) → outcome (Declined r) x ≡ t → outcome (Declined r, node_counts 0 0) x ≡ new_counted held t
-  new_declined r e = (λ i. outcome (Declined r, pick (sym (never_zero r) i) (held x) (node_counts 0 0)) x) ∙ ap (new_counted held) e
-
-  pub new_given : (h : ℕ) (n : NodeCounts) → outcome (Handle h) x ≡ t → n ≡ held x → outcome (Handle h, n) x ≡ new_counted held t
-  new_given h n e is = (λ i. outcome (Handle h, is i) x) ∙ ap (new_counted held) e
+module _ {X : Type 0} (held : X → NodeCounts) {t : Outcome (Result Answer Refusal) X} {x : X} where
+  pub new_given : (h : ℕ) (n : NodeCounts) → outcome (Ok (Handle h)) x ≡ t → n ≡ held x → outcome (Ok (Handle h), n) x ≡ new_counted held t
+  new_given h n e is = (λ i. outcome (Ok (Handle h), is i) x) ∙ ap (new_counted held) e

@@ -4,18 +4,17 @@ use mathlib.Core.List.{List}
 use mathlib.Core.Bool.{Bool, true, false, ◌&&◌}
 use Prim.Native.Nat.{ℕ, ◌^◌, ◌<◌, ◌≤◌}
 use native.Mathlib.Omega.{arith}
-use lib.ListN.{length}
 use lib.Dec.{ltb, eqb, T}
 use borrow.Author.Tests.{lt-ltb, le-ltb, eq-eqb, ne_eqb}
-use Rattle.model.specs.Store.{Kind, arity, Store, nodes, index}
+use Rattle.model.specs.Store.{Kind, arity, Store}
 use Rattle.model.specs.WellFormed.{Held, WellFormed, is_held, level_of}
 use Rattle.model.proofs.Levels.{level_is, held_at}
 use Rattle.memory.specs.Noting.{LevelIs}
 use Rattle.memory.specs.Rows.{places, plain}
 use Rattle.memory.proofs.Steps.{false≢true}
-use Rattle.call_rules.specs.Outcome.{guard, also, of_one, of_pair, of_four}
-use Rattle.call_rules.specs.declared.Check.{Check}
-use Rattle.call_rules.specs.declared.Check.TheVariants.{Level, No}
+use Rattle.call_rules.specs.Outcome.{Check, guard, also, of_one, of_pair, of_four}
+use Rattle.call_rules.specs.Checking.{Low, Checks}
+use Rattle.std.specs.Prelude.{Ok, Err, IsErrAnd}
 use Rattle.call_rules.specs.declared.Refusal.{Refusal}
 use Rattle.call_rules.specs.declared.Refusal.TheVariants.{NotHeld, LevelsDiffer}
 
@@ -23,15 +22,9 @@ pub guard_yes : (r : Refusal) (b : Bool) (c : Check) → b ≡ true → guard r 
 unfolding guard
 guard_yes r b c e = rw e
 
-pub guard_no : (r : Refusal) (b : Bool) (c : Check) → b ≡ false → guard r b c ≡ No r
+pub guard_no : (r : Refusal) (b : Bool) (c : Check) → b ≡ false → guard r b c ≡ Err r
 unfolding guard
 guard_no r b c e = rw e
-
-pub held_low : (K : Kind) (S : Store) (h : ℕ) → h < 2 → is_held K S h ≡ true
-held_low K S h e = rw (lt-ltb h 2 e)
-
-pub held_place : (K : Kind) (S : Store) (h i n : ℕ) → 2 ≤ h → i ≡ index K h → length (nodes K S) ≡ n → is_held K S h ≡ ltb i n
-held_place K S h i n e p q = rw (le-ltb h 2 e, p, q)
 
 module _ {k : ℕ} {S : Store} (K : Kind) (F : WellFormed k S) where
   pub held_here : (h : ℕ) → is_held K S h ≡ true → (level_of k K S h ≤ k) × Held K S (level_of k K S h) h
@@ -39,52 +32,52 @@ module _ {k : ℕ} {S : Store} (K : Kind) (F : WellFormed k S) where
       let t = held_at K h F (subst T (sym e) tt) in
       let q = level_is K S k t.0 h t.1 t.2 in (subst (λ l. l ≤ k) (sym q) t.1, subst (λ l. Held K S l h) (sym q) t.2)
 
-  pub one_none : (a : ℕ) → is_held K S a ≡ false → of_one k K S a ≡ No NotHeld
+  pub one_none : (a : ℕ) → is_held K S a ≡ false → of_one k K S a ≡ Err NotHeld
   unfolding of_one
   one_none a e = guard_no _ _ _ e
 
-  pub one_is : (a l : ℕ) → is_held K S a ≡ true → l ≡ level_of k K S a → of_one k K S a ≡ Level l
+  pub one_is : (a l : ℕ) → is_held K S a ≡ true → l ≡ level_of k K S a → of_one k K S a ≡ Ok l
   unfolding of_one
-  one_is a l e f = guard_yes _ _ _ e ∙ ap Level (sym f)
+  one_is a l e f = guard_yes _ _ _ e ∙ ap Ok (sym f)
 
   -- four operands: all held, all at one level
   module _ (a b c d : ℕ) where
-    pub four_none : (is_held K S a && (is_held K S b && (is_held K S c && is_held K S d))) ≡ false → of_four k K S a b c d ≡ No NotHeld
+    pub four_none : (is_held K S a && (is_held K S b && (is_held K S c && is_held K S d))) ≡ false → of_four k K S a b c d ≡ Err NotHeld
     unfolding of_four
     four_none e = guard_no _ _ _ e
 
     module _ (e : (is_held K S a && (is_held K S b && (is_held K S c && is_held K S d))) ≡ true) (l : ℕ) (p : l ≡ level_of k K S a) where
       at_levels : (x : Bool) → (eqb (level_of k K S b) l && (eqb (level_of k K S c) l && eqb (level_of k K S d) l)) ≡ x
-          → of_four k K S a b c d ≡ guard LevelsDiffer x (Level l)
+          → of_four k K S a b c d ≡ guard LevelsDiffer x (Ok l)
       unfolding of_four
       at_levels x q = guard_yes _ _ _ e ∙ rw (← p, q)
 
       pub four_apart : (eqb (level_of k K S b) l && (eqb (level_of k K S c) l && eqb (level_of k K S d) l)) ≡ false
-          → of_four k K S a b c d ≡ No LevelsDiffer
+          → of_four k K S a b c d ≡ Err LevelsDiffer
       four_apart q = at_levels false q ∙ guard_no _ _ _ refl
 
-      pub four_are : (eqb (level_of k K S b) l && (eqb (level_of k K S c) l && eqb (level_of k K S d) l)) ≡ true → of_four k K S a b c d ≡ Level l
+      pub four_are : (eqb (level_of k K S b) l && (eqb (level_of k K S c) l && eqb (level_of k K S d) l)) ≡ true → of_four k K S a b c d ≡ Ok l
       four_are q = at_levels true q ∙ guard_yes _ _ _ refl
 
 -- two operands of the kinds K and J
 module _ {k : ℕ} {S : Store} (K J : Kind) (F : WellFormed k S) (a b : ℕ) where
-  pub pair_first : is_held K S a ≡ false → of_pair k S K a J b ≡ No NotHeld
+  pub pair_first : is_held K S a ≡ false → of_pair k S K a J b ≡ Err NotHeld
   unfolding of_pair
   pair_first e = guard_no _ _ _ e
 
-  pub pair_second : is_held K S a ≡ true → is_held J S b ≡ false → of_pair k S K a J b ≡ No NotHeld
+  pub pair_second : is_held K S a ≡ true → is_held J S b ≡ false → of_pair k S K a J b ≡ Err NotHeld
   unfolding of_pair
   pair_second e f = guard_yes _ _ _ e ∙ guard_no _ _ _ f
 
   module _ (l j : ℕ) (e : is_held K S a ≡ true) (f : is_held J S b ≡ true) (p : l ≡ level_of k K S a) (q : j ≡ level_of k J S b) where
-    levels : of_pair k S K a J b ≡ guard LevelsDiffer (eqb j l) (Level l)
+    levels : of_pair k S K a J b ≡ guard LevelsDiffer (eqb j l) (Ok l)
     unfolding of_pair
-    levels = guard_yes _ _ _ e ∙ guard_yes _ _ _ f ∙ (λ i. guard LevelsDiffer (eqb (sym q i) (sym p i)) (Level (sym p i)))
+    levels = guard_yes _ _ _ e ∙ guard_yes _ _ _ f ∙ (λ i. guard LevelsDiffer (eqb (sym q i) (sym p i)) (Ok (sym p i)))
 
-    pub pair_apart : (j ≡ l → ⊥) → of_pair k S K a J b ≡ No LevelsDiffer
+    pub pair_apart : (j ≡ l → ⊥) → of_pair k S K a J b ≡ Err LevelsDiffer
     pair_apart n = levels ∙ guard_no _ _ _ (ne_eqb j l n)
 
-    pub pair_are : j ≡ l → of_pair k S K a J b ≡ Level l
+    pub pair_are : j ≡ l → of_pair k S K a J b ≡ Ok l
     pair_are n = levels ∙ guard_yes _ _ _ (eq-eqb j l n)
 
 -- each of four tests
@@ -102,22 +95,50 @@ level_known K B m n L e f F t = let u = held_here K F _ t in L K B n _ e (subst 
 
 -- a check X that is r, and one more test t where it passes
 module _ {X r : Check} (q : Refusal) (t : ℕ → Bool) (C : X ≡ r) where
-  pub also_no : (l : ℕ) → r ≡ Level l → t l ≡ false → also X q t ≡ No q
+  pub also_no : (l : ℕ) → r ≡ Ok l → t l ≡ false → also X q t ≡ Err q
   unfolding also
-  also_no l e f = ap (λ c. also c q t) (C ∙ e) ∙ guard_no q (t l) (Level l) f
+  also_no l e f = ap (λ c. also c q t) (C ∙ e) ∙ guard_no q (t l) (Ok l) f
 
-  pub also_yes : (l : ℕ) → r ≡ Level l → t l ≡ true → also X q t ≡ Level l
+  pub also_yes : (l : ℕ) → r ≡ Ok l → t l ≡ true → also X q t ≡ Ok l
   unfolding also
-  also_yes l e f = ap (λ c. also c q t) (C ∙ e) ∙ guard_yes q (t l) (Level l) f
+  also_yes l e f = ap (λ c. also c q t) (C ∙ e) ∙ guard_yes q (t l) (Ok l) f
 
   -- a refusal stays
-  pub still_no : (p : Refusal) → r ≡ No p → also X q t ≡ r
+  pub still_no : (p : Refusal) → r ≡ Err p → also X q t ≡ r
   unfolding also
   still_no p e = ap (λ c. also c q t) (C ∙ e) ∙ sym e
 
--- a packet x against the power of 2 that was computed
-pub too_big : (x w p l n : ℕ) → w ≡ x → p ≡ 2 ^ n → n ≡ l → p ≤ w → ltb x (2 ^ l) ≡ false
-too_big x w p l n e f g h = le-ltb x (2 ^ l) (subst (λ l. 2 ^ l ≤ x) g (omega (arith, e, f)))
+-- a refusal that `?` hands on
+pub handed_on : (x y : Check) (q : Refusal) → x ≡ Err q → IsErrAnd y (λ r. r ≡ q) → y ≡ x
+handed_on x (Ok l) q e a = absurd a
+handed_on x (Err r) q e a = ap Err a ∙ sym e
 
-pub in_range : (x w p l n : ℕ) → w ≡ x → p ≡ 2 ^ n → n ≡ l → w < p → ltb x (2 ^ l) ≡ true
-in_range x w p l n e f g h = lt-ltb x (2 ^ l) (subst (λ l. x < 2 ^ l) g (omega (arith, e, f)))
+-- A CHECK that a function made, and one more test after it or before it
+module _ {K : Kind} {m : List ℕ} {n k : ℕ} {check : Store → Check} {r : Check} (C : Checks K m n k check r) where
+  module _ (q : Refusal) (t : ℕ → Bool) where
+    pub stays : (y : Check) (p : Refusal) → r ≡ Err p → IsErrAnd y (λ r. r ≡ p) → Checks K m n k (λ S. also (check S) q t) y
+    stays y p e a = let h = handed_on r y p e a in record {
+      says = λ B f F. still_no q t (C.says B f F) p e ∙ sym h;
+      low = subst (Low k) (sym h) C.low;
+    }
+
+    module _ (l : ℕ) (e : r ≡ Ok l) where
+      pub fails : t l ≡ false → Checks K m n k (λ S. also (check S) q t) (Err q)
+      fails f = record { says = λ B g F. also_no q t (C.says B g F) l e f; low = tt }
+
+      pub passes : t l ≡ true → Checks K m n k (λ S. also (check S) q t) (Ok l)
+      passes f = record { says = λ B g F. also_yes q t (C.says B g F) l e f; low = subst (Low k) e C.low }
+
+  pub guarded : (q : Refusal) (b : Bool) → b ≡ true → Checks K m n k (λ S. guard q b (check S)) r
+  guarded q b e = record { says = λ B f F. guard_yes q b (check (plain K B m n)) e ∙ C.says B f F; low = C.low }
+
+  -- a level is at most 32
+  pub low_level : (l : ℕ) → r ≡ Ok l → k ≤ 32 → l ≤ 32
+  low_level l e h = let g = subst (Low k) e C.low in omega arith
+
+-- a packet x against the power of 2 that was computed
+pub too_big : (x w p l : ℕ) → w ≡ x → p ≡ 2 ^ l → p ≤ w → ltb x (2 ^ l) ≡ false
+too_big x w p l e f h = le-ltb x (2 ^ l) (omega (arith, e, f))
+
+pub in_range : (x w p l : ℕ) → w ≡ x → p ≡ 2 ^ l → w < p → ltb x (2 ^ l) ≡ true
+in_range x w p l e f h = lt-ltb x (2 ^ l) (omega (arith, e, f))

@@ -9,3 +9,4 @@ pub mod Running
 pub mod CallSteps
 pub mod Reading
 pub mod Declining
+pub mod OnLent

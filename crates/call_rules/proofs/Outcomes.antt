@@ -15,8 +15,7 @@ use Rattle.model.specs.Programs.{Prog, Ran, run}
 use Rattle.model.specs.Places.{fits_places}
 use Rattle.model.proofs.Bools.{by_test}
 use Rattle.memory.specs.Rows.{rows, plain}
-use Rattle.memory.specs.Performing.{run_state, other, ends, Runs}
-use Rattle.memory.specs.declared.RunState.{RunState}
+use Rattle.memory.specs.Performing.{RunState, run_state, other, ends, Runs}
 use Rattle.memory.proofs.Rows.{rows_length, places_fit, plain_nodes}
 use Rattle.call_rules.specs.OnMemories.{set_places, rel_places, on_store}
 use Rattle.call_rules.specs.Finishing.{Finished, Fitted, Ends}
@@ -26,9 +25,9 @@ use Rattle.store_check.specs.Memory.{head_of, head, count_at, fields_at}
 use Rattle.call_rules.specs.Outcome.{Verdict, gives, runs, guard, unless_declined, as_handle, Outcome, outcome, finishes}
 use Rattle.store_check.specs.Valid.{Room, IsStore, is_store}
 use Rattle.call_rules.specs.declared.Answer.{Answer}
-use Rattle.call_rules.specs.declared.Answer.TheVariants.{Handle, Declined}
-use Rattle.call_rules.specs.declared.Check.{Check}
-use Rattle.call_rules.specs.declared.Check.TheVariants.{Level}
+use Rattle.call_rules.specs.declared.Answer.TheVariants.{Handle}
+use Rattle.std.specs.Prelude.{Result, Ok, Err}
+use Rattle.call_rules.specs.Outcome.{Check}
 use Rattle.call_rules.specs.declared.Refusal.{Refusal}
 use Rattle.call_rules.specs.declared.Refusal.TheVariants.{NotStore, UsedUp}
 use Rattle.store_check.proofs.Decide.{store_says}
@@ -128,7 +127,7 @@ ended refuse M u = finishes (refuse UsedUp) (set_places M) (rel_places M) u (dec
 
 module _ {A : Type 0} (refuse : Refusal → A) (v : ℕ → Store → Verdict A) (M : Memories) where
   -- from whether the memories are a store
-  begins : (c : Check) → guard NotStore (is_store M) (Level (fields M)) ≡ c
+  begins : (c : Check) → guard NotStore (is_store M) (Ok (fields M)) ≡ c
       → on_store refuse v M ≡ ended refuse M (unless_declined refuse c (λ k. v k (decode M)))
   unfolding on_store
   begins c e = ap (λ c. ended refuse M (unless_declined refuse c (λ k. v k (decode M)))) e
@@ -242,6 +241,6 @@ module _ {A : Type 0} (refuse : Refusal → A) (v : ℕ → Store → Verdict A)
   ran_on = by_test (λ b. r.ok ≡ b → outcome a (with_memory K m' M) ≡ on_store refuse v M) r.ok (λ t u. ran_fits u) (λ t u. ran_full u) refl
 
 -- how `finish` ends a run that gives a handle
-pub finished_ends : {m m' : List ℕ} {at start c n : ℕ} {r : RunState} {a : Answer} (K : Kind) (S : Store) (R : Ran) → Finished m m' at start c n r a
-    → Ends K S r R as_handle (Declined UsedUp) a
-finished_ends K S R F = record { fitted = λ t D. F.fitted t ∙ ap Handle D.value; full = F.full }
+pub finished_ends : {m m' : List ℕ} {at start c n : ℕ} {r : RunState} {a : Result Answer Refusal} (K : Kind) (S : Store) (R : Ran)
+    → Finished m m' at start c n r a → Ends K S r R as_handle (Err UsedUp) a
+finished_ends K S R F = record { fitted = λ t D. F.fitted t ∙ ap (λ h. Ok (Handle h)) D.value; full = F.full }

@@ -12,22 +12,20 @@ use Rattle.model.specs.Store.{Kind, set, rel, arity, Store, nodes}
 use Rattle.model.specs.Programs.{Prog, Ran, run}
 use Rattle.model.specs.Safety.{Safe}
 use Rattle.model.specs.WellFormed.{WellFormed}
-use Rattle.memory.specs.Performing.{run_state, other, Condition, PerformsOn, OtherNodes, Runs}
+use Rattle.memory.specs.Performing.{RunState, going, ended, other, Condition, PerformsOn, OtherNodes, Writes, Runs}
 use Rattle.memory.specs.Rows.{rows, places, plain, most_places}
 use Rattle.memory.specs.Working.{Right}
-use Rattle.memory.specs.declared.RunState.{RunState}
 use Rattle.memory.proofs.Rows.{places_fit}
 use Rattle.call_rules.specs.OnMemories.{on_store}
 use Rattle.call_rules.specs.Checking.{Low, ChecksIn, Checks, ChecksBoth, CheckedStore}
 use Rattle.call_rules.specs.Finishing.{Ends}
 use Rattle.store_check.specs.Commit.{Committed}
 use Rattle.store_check.specs.StoreChecking.{kind_last, both, StoreChecked}
-use Rattle.store_check.specs.Reindexing.{Reindexed}
 use Rattle.store_check.specs.Memory.{Memories, memory, head, count_at, count, fields, body, decode}
 use Rattle.call_rules.specs.Outcome.{Verdict, runs, unless_declined, outcome}
 use Rattle.store_check.specs.Valid.{IsStore}
-use Rattle.call_rules.specs.declared.Check.{Check}
-use Rattle.call_rules.specs.declared.Check.TheVariants.{Level, No}
+use Rattle.call_rules.specs.Outcome.{Check}
+use Rattle.std.specs.Prelude.{Option, Some, None, Ok, Err}
 use Rattle.call_rules.specs.declared.Refusal.{Refusal}
 use Rattle.call_rules.specs.declared.Refusal.TheVariants.{UsedUp}
 use Rattle.store_check.proofs.Decide.{store_says}
@@ -64,32 +62,17 @@ ready_here K M w n Y en = let e = whole_part (head K) (memory K M) in record {
   right = subst (λ b. Right K (decode M) w b n) (sym e) (subst (λ n. Right K (decode M) w (body K (memory K M)) n) (sym en) Y.right);
 }
 
--- the index turned to the nodes of kind K, as the code lends them on
-pub ready_turned : (K : Kind) (M : Memories) (w w' : List ℕ) (n : ℕ) → CheckedStore (other K) M w → n ≡ count K (memory K M)
-    → Reindexed (arity K) n (part_of K M) w w' → CheckedStore K M w'
-ready_turned K M w w' n Y en X =
-    let J = other K in
-    let o = body J (memory J M) in
-    let j = count J (memory J M) in
-    let was : Right J (plain K (decode M) (part_of K M) n) w o j = subst (λ B. Right J B w o j) (sym (nodes_here K M Y.store n en)) Y.right in
-    let now : Right K (decode M) w' (part_of K M) n = subst (λ B. Right K B w' (part_of K M) n) (decoded J M) (X.right K (decode M) o j refl was) in
-    record {
-      store = Y.store;
-      right = subst (λ n. Right K (decode M) w' (body K (memory K M)) n) en
-          (subst (λ b. Right K (decode M) w' b n) (whole_part (head K) (memory K M)) now);
-    }
-
 -- A CHECK that says whether the call is declined
 module _ (M : Memories) (s : IsStore M) (check : ℕ → Store → Check) (r : Check) (G : ChecksIn (fields M) (decode M) (check (fields M)) r) where
   module _ {A : Type 0} (refuse : Refusal → A) where
-    pub check_no : (v : ℕ → Store → ℕ → Verdict A) (q : Refusal) → r ≡ No q
+    pub check_no : (v : ℕ → Store → ℕ → Verdict A) (q : Refusal) → r ≡ Err q
         → outcome (refuse q) M ≡ on_store refuse (λ k S. unless_declined refuse (check k S) (v k S)) M
     check_no v q e = given refuse _ M s (refuse q) (ap (λ c. unless_declined refuse c (v (fields M) (decode M))) (G.says ∙ e))
 
-    pub check_passed : (v : ℕ → Verdict A) (l : ℕ) → r ≡ Level l → unless_declined refuse (check (fields M) (decode M)) v ≡ v l
+    pub check_passed : (v : ℕ → Verdict A) (l : ℕ) → r ≡ Ok l → unless_declined refuse (check (fields M) (decode M)) v ≡ v l
     check_passed v l e = ap (λ c. unless_declined refuse c v) (G.says ∙ e)
 
-  pub check_low : (l : ℕ) → r ≡ Level l → l ≤ 32
+  pub check_low : (l : ℕ) → r ≡ Ok l → l ≤ 32
   check_low l e = let h = subst (Low (fields M)) e G.low in let f = s.few in omega arith
 
 pub checked_here : {M : Memories} {n : ℕ} {check : Store → Check} {r : Check} (K : Kind) (s : IsStore M)
@@ -120,6 +103,11 @@ module _ (M : Memories) (s : IsStore M) where
       let e : both rel (part_of rel M) n (part_of set M) j ≡ decode M = λ i. record { sets = sym b.read i; rels = sym a.read i } in
       subst (λ S. ChecksIn (fields M) S check r) e (C.checks a.within b.within (subst (WellFormed (fields M)) (sym e) s.formed))
 
+-- a run ends with this count, whatever it gave
+ended_count : (n : ℕ) (r : Option ℕ) → (ended n r).n ≡ n
+ended_count n (Some h) = refl
+ended_count n None = refl
+
 -- A PROGRAM of the kind K
 module _ (K : Kind) (M : Memories) (w : List ℕ) (Y : CheckedStore K M w) (n : ℕ) (en : n ≡ count K (memory K M)) where
   abbrev m : List ℕ
@@ -131,27 +119,30 @@ module _ (K : Kind) (M : Memories) (w : List ℕ) (Y : CheckedStore K M w) (n : 
   H : Here K M w n
   H = ready_here K M w n Y en
 
-  module _ {Q : Condition} (on : Q (decode M)) (p q : Prog) (b w' : List ℕ) (r : RunState) (eq : q ≡ p) (s : Safe p (decode M))
-      (P : PerformsOn Q K q (run_state true n 0) part b w w' r) where
-    pub runs_here : Runs K p (decode M) (run_state true (count K m) 0) (body K m) b w w' r
+  module _ {Q : Condition} (on : Q (decode M)) (p q : Prog) (b w' : List ℕ) (end : ℕ) (made : Option ℕ) (eq : q ≡ p) (s : Safe p (decode M))
+      (P : PerformsOn Q K q (going n) part b w w' (ended end made)) where
+    abbrev r : RunState
+    r = ended end made
+
+    pub runs_here : Runs K p (decode M) (going (count K m)) (body K m) b w w' r
     runs_here =
-        subst (λ n. Runs K p (decode M) (run_state true n 0) (body K m) b w w' r) en
-        (subst (λ x. Runs K p (decode M) (run_state true n 0) x b w w' r) (whole_part (head K) m)
-        (subst (λ p. Runs K p (decode M) (run_state true n 0) part b w w' r) eq (P.runs (decode M) on (record {
+        subst (λ n. Runs K p (decode M) (going n) (body K m) b w w' r) en
+        (subst (λ x. Runs K p (decode M) (going n) x b w w' r) (whole_part (head K) m)
+        (subst (λ p. Runs K p (decode M) (going n) part b w w' r) eq (P.runs (decode M) on (record {
           room = H.room;
           live = λ _. record { safe = subst (Safe q) (sym H.nodes) (subst (λ p. Safe p (decode M)) (sym eq) s); work = H.right };
         }))))
 
     -- what the program wrote is within the memory
-    pub within_memory : (n ≤ r.n) × (r.n ≤ most_places) × (head K + arity K * r.n ≤ length (put_mid (head K) (length m - head K) m b))
+    pub within_memory : (n ≤ end) × (end ≤ most_places) × (head K + arity K * end ≤ length (put_mid (head K) (length m - head K) m b))
     within_memory =
-        let W = runs_here.writes in
+        let W = subst (λ e. Writes (arity K) (count K m) (body K m) b e) (ended_count end made) runs_here.writes in
         let l : length (put_mid (head K) (length m - head K) m b) ≡ head K + length b
         = ap length (tail_put (head K) m b) ∙ length-append (take (head K) m) b
         ∙ ap (λ h. h + length b) (length-take-le (head K) m (Y.store.room K).headed) in (
-          subst (λ n. n ≤ r.n) (sym en) W.grows,
+          subst (λ n. n ≤ end) (sym en) W.grows,
           omega (arith, W.most),
-          omega (arith, l, W.long, places_fit (arity K) (body K m) r.n W.most),
+          omega (arith, l, W.long, places_fit (arity K) (body K m) end W.most),
         )
 
     pub ran_here : {A : Type 0} (refuse : Refusal → A) (v : ℕ → Store → Verdict A) (f : Ran → A) (m' : List ℕ) (a : A) → v (fields M) (decode M) ≡ runs p f

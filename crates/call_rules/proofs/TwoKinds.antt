@@ -14,11 +14,11 @@ use Rattle.memory.proofs.Rows.{rows_length}
 use Rattle.call_rules.specs.Checking.{Low, Checks, ChecksBoth}
 use Rattle.store_check.specs.StoreChecking.{both}
 use Rattle.call_rules.specs.Outcome.{also, of_pair, of_path}
-use Rattle.call_rules.specs.declared.Check.{Check}
-use Rattle.call_rules.specs.declared.Check.TheVariants.{Level, No}
+use Rattle.call_rules.specs.Outcome.{Check}
+use Rattle.std.specs.Prelude.{Ok, Err, IsErrAnd}
 use Rattle.call_rules.specs.declared.Refusal.{Refusal}
 use Rattle.call_rules.specs.declared.Refusal.TheVariants.{NotHeld, LevelsDiffer}
-use Rattle.call_rules.proofs.Handles.{guard_yes, guard_no, pair_first, pair_second, pair_apart, pair_are, level_known, also_no, also_yes, still_no}
+use Rattle.call_rules.proofs.Handles.{guard_yes, guard_no, pair_first, pair_second, pair_apart, pair_are, level_known, also_no, also_yes, still_no, handed_on}
 
 -- whether h is held among n nodes of c numbers, as `is_held` says it
 abbrev HeldIs : ℕ → ℕ → ℕ → Bool → Type 0
@@ -34,18 +34,18 @@ module _ (o t : List ℕ) (n j k : ℕ) where
     held_relation : is_held rel (both rel o n t j) a ≡ x
     held_relation = A rel (both rel o n t j) refl (rows_length 4 n o)
 
-    pub pair_no_relation : x ≡ false → ChecksBoth o n t j k (λ S. of_pair k S rel a set p) (No NotHeld)
+    pub pair_no_relation : x ≡ false → ChecksBoth o n t j k (λ S. of_pair k S rel a set p) (Err NotHeld)
     pair_no_relation e = record { checks = λ f g F. record { says = pair_first rel set F a p (held_relation ∙ e); low = tt } }
 
     module _ {y : Bool} (e : x ≡ true) (P : HeldIs 2 j p y) where
       held_set : is_held set (both rel o n t j) p ≡ y
       held_set = P set (both rel o n t j) refl (rows_length 2 j t)
 
-      pub pair_no_set : y ≡ false → ChecksBoth o n t j k (λ S. of_pair k S rel a set p) (No NotHeld)
+      pub pair_no_set : y ≡ false → ChecksBoth o n t j k (λ S. of_pair k S rel a set p) (Err NotHeld)
       pair_no_set f = record { checks = λ _ _ F. record { says = pair_second rel set F a p (held_relation ∙ e) (held_set ∙ f); low = tt } }
 
       module _ {l i : ℕ} (f : y ≡ true) (L : LevelIs o 4 k a l) (I : LevelIs t 2 k p i) where
-        pub pair_levels_differ : (i ≡ l → ⊥) → ChecksBoth o n t j k (λ S. of_pair k S rel a set p) (No LevelsDiffer)
+        pub pair_levels_differ : (i ≡ l → ⊥) → ChecksBoth o n t j k (λ S. of_pair k S rel a set p) (Err LevelsDiffer)
         pair_levels_differ d = record {
           checks = λ r s F. record {
             says = pair_apart rel set F a p l i (held_relation ∙ e) (held_set ∙ f)
@@ -54,7 +54,7 @@ module _ (o t : List ℕ) (n j k : ℕ) where
           };
         }
 
-        pub pair_passes : l ≤ k → i ≡ l → ChecksBoth o n t j k (λ S. of_pair k S rel a set p) (Level l)
+        pub pair_passes : l ≤ k → i ≡ l → ChecksBoth o n t j k (λ S. of_pair k S rel a set p) (Ok l)
         pair_passes b d = record {
           checks = λ r s F. record {
             says = pair_are rel set F a p l i (held_relation ∙ e) (held_set ∙ f)
@@ -68,7 +68,7 @@ module _ (o t : List ℕ) (n j k : ℕ) where
     held_output : is_held set (both rel o n t j) q ≡ x
     held_output = Q set (both rel o n t j) refl (rows_length 2 j t)
 
-    pub path_no_output : x ≡ false → ChecksBoth o n t j k (λ S. of_path k S p a q) (No NotHeld)
+    pub path_no_output : x ≡ false → ChecksBoth o n t j k (λ S. of_path k S p a q) (Err NotHeld)
     unfolding of_path
     path_no_output e = record { checks = λ f g F. record { says = guard_no _ _ _ (held_output ∙ e); low = tt } }
 
@@ -79,14 +79,19 @@ module _ (o t : List ℕ) (n j k : ℕ) where
       unfolding of_path
       third d = guard_yes _ _ _ (held_output ∙ e) ∙ d
 
-      pub path_declined : (y : Refusal) → r ≡ No y → ChecksBoth o n t j k (λ S. of_path k S p a q) r
-      path_declined y u = record { checks = λ f g F. record { says = third (still_no _ _ (C.checks f g F).says y u); low = (C.checks f g F).low } }
+      pub path_declined : (x : Check) (y : Refusal) → r ≡ Err y → IsErrAnd x (λ r. r ≡ y) → ChecksBoth o n t j k (λ S. of_path k S p a q) x
+      path_declined x y u v = let h = handed_on r x y u v in record {
+        checks = λ f g F. record {
+          says = third (still_no _ _ (C.checks f g F).says y u ∙ sym h);
+          low = subst (Low k) (sym h) (C.checks f g F).low;
+        };
+      }
 
-      module _ {l i : ℕ} (u : r ≡ Level l) (I : LevelIs t 2 k q i) where
+      module _ {l i : ℕ} (u : r ≡ Ok l) (I : LevelIs t 2 k q i) where
         level : j ≤ places 2 t → WellFormed k (both rel o n t j) → i ≡ level_of k set (both rel o n t j) q
         level g F = level_known set (both rel o n t j) t j I refl g F (held_output ∙ e)
 
-        pub path_levels_differ : (i ≡ l → ⊥) → ChecksBoth o n t j k (λ S. of_path k S p a q) (No LevelsDiffer)
+        pub path_levels_differ : (i ≡ l → ⊥) → ChecksBoth o n t j k (λ S. of_path k S p a q) (Err LevelsDiffer)
         path_levels_differ d = record {
           checks = λ f g F. record {
             says = third (also_no _ _ (C.checks f g F).says l u (ne_eqb _ _ (λ z. d (level g F ∙ z))));
@@ -94,7 +99,7 @@ module _ (o t : List ℕ) (n j k : ℕ) where
           };
         }
 
-        pub path_passes : i ≡ l → ChecksBoth o n t j k (λ S. of_path k S p a q) (Level l)
+        pub path_passes : i ≡ l → ChecksBoth o n t j k (λ S. of_path k S p a q) (Ok l)
         path_passes d = record {
           checks = λ f g F. record {
             says = third (also_yes _ _ (C.checks f g F).says l u (eq-eqb _ _ (sym (level g F) ∙ d)));

@@ -1,5 +1,5 @@
 -- The walk along two packets, field by field, as `relates` makes it.
-use mathlib.Core.Path.{◌≡◌, refl, sym, ap, ◌∙◌, subst}
+use mathlib.Core.Path.{◌≡◌, sym, ap, ◌∙◌, subst}
 use mathlib.Core.List.{List}
 use Prim.Native.Nat.{ℕ, zero, suc, ◌+◌, ◌-◌, ◌*◌, ◌/◌, ◌%◌, ◌<◌}
 use native.Mathlib.Omega.{arith}
@@ -17,9 +17,6 @@ pair l p q = digits (packet l p) (packet l q)
 pub record Walking (S : Store) (n a p q l h i o : ℕ) : Type 0 where
   pub held : Held rel S l h
   pub same : walk rel S h (pair l i o) ≡ walk rel S a (pair n p q)
-
-pub walking_starts : {S : Store} {n a p q : ℕ} → Held rel S n a → Walking S n a p q n a p q
-walking_starts A = record { held = A; same = refl }
 
 module _ {S : Store} {n a p q h i o : ℕ} where
   pub walking_within : (l : ℕ) → 0 < l → Walking S n a p q l h i o → Within rel S h

@@ -1,11 +1,12 @@
 -- 02, M-101: "Every call that may append .. then returns the relation nodes and set nodes it added. Each number is the count held after less the
 -- count before (for `new`, the count after), and both are 0 on a refusal." One definition for memories and for the plain store.
-use Rattle.std.specs.Prelude.{ℕ, ◌-◌, eqb}
+use Rattle.std.specs.Prelude.{ℕ, ◌-◌, eqb, Result}
 use Rattle.model.specs.Store.{Kind, set, rel, pick}
 use Rattle.store_check.specs.Memory.{Memories, count}
 use Rattle.call_rules.specs.Answers.{refusal}
 use Rattle.call_rules.specs.Outcome.{Outcome, outcome}
 use Rattle.call_rules.specs.declared.Answer.{Answer}
+use Rattle.call_rules.specs.declared.Refusal.{Refusal}
 use Rattle.call_rules.specs.declared.added.NodeCounts.{NodeCounts}
 
 abbrev pub node_counts : ℕ → ℕ → NodeCounts
@@ -31,5 +32,5 @@ abbrev pub counted : {A X : Type 0} → (X → NodeCounts) → X → Outcome A X
 counted held x t = outcome (t.answer, less (held t.state) (held x)) t.state
 
 -- that of `new`
-abbrev pub new_counted : {X : Type 0} → (X → NodeCounts) → Outcome Answer X → Outcome (Answer × NodeCounts) X
+abbrev pub new_counted : {X : Type 0} → (X → NodeCounts) → Outcome (Result Answer Refusal) X → Outcome (Result Answer Refusal × NodeCounts) X
 new_counted held t = outcome (t.answer, added_by_new (refusal t.answer) (held t.state)) t.state

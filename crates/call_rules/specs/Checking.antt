@@ -1,5 +1,5 @@
 -- What the functions that check a call and answer it say: m is the nodes of a kind, n their count, k the number of fields.
-use Rattle.std.specs.Prelude.{◌≡◌, List, Bool, true, ◌&&◌, ℕ, ◌≤◌, eqb}
+use Rattle.std.specs.Prelude.{◌≡◌, List, Bool, true, ◌&&◌, ℕ, ◌≤◌, eqb, Ok, Err}
 use Rattle.model.specs.Store.{Kind, rel, arity, Store}
 use Rattle.model.specs.WellFormed.{WellFormed, is_held, level_of}
 use Rattle.memory.specs.Performing.{Condition, Any}
@@ -8,13 +8,12 @@ use Rattle.memory.specs.Working.{Right}
 use Rattle.store_check.specs.StoreChecking.{both}
 use Rattle.store_check.specs.Memory.{Memories, memory, count, body, decode}
 use Rattle.store_check.specs.Valid.{IsStore}
-use Rattle.call_rules.specs.declared.Check.{Check}
-use Rattle.call_rules.specs.declared.Check.TheVariants.{Level, No}
+use Rattle.call_rules.specs.Outcome.{Check}
 
 -- a level is at most k
 abbrev pub Low : ℕ → Check → Type 0
-Low k (Level l) = l ≤ k
-Low k (No r) = Unit {0}
+Low k (Ok l) = l ≤ k
+Low k (Err r) = Unit {0}
 
 -- r is what a call declines in S
 pub record ChecksIn (k : ℕ) (S : Store) (check : Store → Check) (r : Check) : Type 0 where

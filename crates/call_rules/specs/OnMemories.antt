@@ -1,16 +1,13 @@
 -- The outcome of a call on two memories: by its verdict on their nodes where they are a store, and that of `new`.
-use Rattle.std.specs.Prelude.{Bool, ◌&&◌, ℕ, length, leb}
+use Rattle.std.specs.Prelude.{Bool, ◌&&◌, ℕ, length, leb, Result, Ok, Err}
 use Rattle.model.specs.Store.{set, rel, Store}
 use Rattle.model.specs.Images.{blank, new}
 use Rattle.store_check.specs.Memory.{Memories, head, fields, places_in, decode, encode}
 use Rattle.store_check.specs.Valid.{is_store}
-use Rattle.call_rules.specs.Outcome.{Verdict, runs, guard, unless_declined, as_handle, Outcome, finishes}
+use Rattle.call_rules.specs.Outcome.{Check, Verdict, runs, guard, unless_declined, as_handle, Outcome, finishes}
 use Rattle.call_rules.specs.declared.Refusal.TheVariants.{NotStore, OutOfRange, UsedUp}
 use Rattle.call_rules.specs.declared.Refusal.{Refusal}
-use Rattle.call_rules.specs.declared.Check.{Check}
-use Rattle.call_rules.specs.declared.Check.TheVariants.{Level}
 use Rattle.call_rules.specs.declared.Answer.{Answer}
-use Rattle.call_rules.specs.declared.Answer.TheVariants.{Declined}
 
 abbrev pub set_places : Memories → ℕ
 set_places M = places_in set M.sets
@@ -21,7 +18,7 @@ rel_places M = places_in rel M.relations
 -- 01: "1 not a store" covers both memories and comes first; the check of a store is the number of its fields
 unfoldable pub on_store : {A : Type 0} → (Refusal → A) → (ℕ → Store → Verdict A) → Memories → Outcome A Memories
 on_store refuse v M =
-    finishes (refuse UsedUp) (set_places M) (rel_places M) (unless_declined refuse (guard NotStore (is_store M) (Level (fields M))) (λ k. v k (decode M)))
+    finishes (refuse UsedUp) (set_places M) (rel_places M) (unless_declined refuse (guard NotStore (is_store M) (Ok (fields M))) (λ k. v k (decode M)))
     (decode M) M
     (λ S. encode (fields M) S M)
 
@@ -31,9 +28,9 @@ are_heads M = leb (head rel) (length M.relations) && leb (head set) (length M.se
 
 -- what `new` declines; the memories lent to it need not be a store
 abbrev pub new_declines : ℕ → Memories → Check
-new_declines k M = guard OutOfRange (leb k 32) (guard NotStore (are_heads M) (Level k))
+new_declines k M = guard OutOfRange (leb k 32) (guard NotStore (are_heads M) (Ok k))
 
-unfoldable pub new_step : ℕ → Memories → Outcome Answer Memories
+unfoldable pub new_step : ℕ → Memories → Outcome (Result Answer Refusal) Memories
 new_step k M =
-    finishes (Declined UsedUp) (set_places M) (rel_places M) (unless_declined Declined (new_declines k M) (λ k. runs (new k) as_handle)) blank M
+    finishes (Err UsedUp) (set_places M) (rel_places M) (unless_declined Err (new_declines k M) (λ k. runs (new k) as_handle)) blank M
     (λ S. encode k S M)

@@ -1,35 +1,36 @@
 -- The outcome of a call, in document 01's order of refusals: one definition for memories and for the plain store.
-use Rattle.std.specs.Prelude.{Bool, true, false, ◌&&◌, ◌||◌, ℕ, ◌^◌, ltb, eqb}
+use Rattle.std.specs.Prelude.{Bool, true, false, ◌&&◌, ◌||◌, ℕ, ◌^◌, ltb, eqb, Result, Ok, Err}
 use Rattle.model.specs.Store.{Kind, set, rel, Store, pick}
 use Rattle.model.specs.Programs.{Prog, Ran, run}
 use Rattle.model.specs.Places.{fits_places}
 use Rattle.model.specs.WellFormed.{is_held, level_of}
 use Rattle.call_rules.specs.declared.Refusal.{Refusal}
 use Rattle.call_rules.specs.declared.Refusal.TheVariants.{NotHeld, LevelsDiffer, NoChildren, OutOfRange}
-use Rattle.call_rules.specs.declared.Check.{Check}
-use Rattle.call_rules.specs.declared.Check.TheVariants.{Level, No}
 use Rattle.call_rules.specs.declared.Answer.{Answer}
 use Rattle.call_rules.specs.declared.Answer.TheVariants.{Handle, Truth}
 
--- WHAT A CALL DECLINES is a `Check`: the level of its operands, or a refusal.
+-- WHAT A CALL DECLINES: the level of its operands, or a refusal
+abbrev pub Check : Type 0
+Check = Result ℕ Refusal
+
 -- the check c where the test holds, and the refusal r where not
 unfoldable pub guard : Refusal → Bool → Check → Check
 guard r true c = c
-guard r false c = No r
+guard r false c = Err r
 
 -- after a check that passes one more test, of its level
 unfoldable pub also : Check → Refusal → (ℕ → Bool) → Check
-also (Level l) r t = guard r (t l) (Level l)
-also (No q) r t = No q
+also (Ok l) r t = guard r (t l) (Ok l)
+also (Err q) r t = Err q
 
 -- 01: "2 handle not held"
 unfoldable pub of_one : ℕ → Kind → Store → ℕ → Check
-of_one k K S a = guard NotHeld (is_held K S a) (Level (level_of k K S a))
+of_one k K S a = guard NotHeld (is_held K S a) (Ok (level_of k K S a))
 
 -- 01: "3 levels differ", of an operand of kind K and one of kind J
 unfoldable pub of_pair : ℕ → Store → Kind → ℕ → Kind → ℕ → Check
 of_pair k S K a J b = (let l = level_of k K S a in
-    guard NotHeld (is_held K S a) (guard NotHeld (is_held J S b) (guard LevelsDiffer (eqb (level_of k J S b) l) (Level l))))
+    guard NotHeld (is_held K S a) (guard NotHeld (is_held J S b) (guard LevelsDiffer (eqb (level_of k J S b) l) (Ok l))))
 
 -- two operands of one kind
 abbrev pub of_two : ℕ → Kind → Store → ℕ → ℕ → Check
@@ -45,7 +46,7 @@ of_children k K S a b = also (of_two k K S a b) OutOfRange (λ l. ltb l k)
 
 -- a field v and a value b for it. 01, `test`, `assign`: "5 if the field is k or more"; a value is 0 or 1
 abbrev pub of_field : ℕ → ℕ → ℕ → Check
-of_field k v b = guard OutOfRange (ltb v k) (guard OutOfRange (ltb b 2) (Level k))
+of_field k v b = guard OutOfRange (ltb v k) (guard OutOfRange (ltb b 2) (Ok k))
 
 -- 01, `ifelse`: "5 likewise; 2; 3; 4 if the branches' level is not above the field"
 abbrev pub of_branches : ℕ → Kind → Store → ℕ → ℕ → ℕ → Check
@@ -67,7 +68,7 @@ of_path k S p a q = guard NotHeld (is_held set S q) (also (of_pair k S rel a set
 unfoldable pub of_four : ℕ → Kind → Store → ℕ → ℕ → ℕ → ℕ → Check
 of_four k K S a b c d = (let l = level_of k K S a in
     guard NotHeld (is_held K S a && (is_held K S b && (is_held K S c && is_held K S d)))
-    (guard LevelsDiffer (eqb (level_of k K S b) l && (eqb (level_of k K S c) l && eqb (level_of k K S d) l)) (Level l)))
+    (guard LevelsDiffer (eqb (level_of k K S b) l && (eqb (level_of k K S c) l && eqb (level_of k K S d) l)) (Ok l)))
 
 -- four children: 2, 3, and 5 as for two
 abbrev pub of_four_children : ℕ → Kind → Store → ℕ → ℕ → ℕ → ℕ → Check
@@ -80,12 +81,12 @@ pub data Verdict (A : Type 0) : Type 0 where
 
 -- the verdict at the check's level, or the call is declined; `refuse` makes an answer of a refusal
 abbrev pub unless_declined : {A : Type 0} → (Refusal → A) → Check → (ℕ → Verdict A) → Verdict A
-unless_declined refuse (Level l) v = v l
-unless_declined refuse (No r) v = gives (refuse r)
+unless_declined refuse (Ok l) v = v l
+unless_declined refuse (Err r) v = gives (refuse r)
 
 -- the answer of a program that gives a handle
-abbrev pub as_handle : Ran → Answer
-as_handle R = Handle R.value
+abbrev pub as_handle : Ran → Result Answer Refusal
+as_handle R = Ok (Handle R.value)
 
 -- the answer of a program that gives 1 or 0
 abbrev pub yes_no : Prog → Store → Answer

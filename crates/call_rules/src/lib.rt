@@ -5,11 +5,12 @@ ghost use Rattle.std.specs.Prelude.{◌≡◌};
 ghost use Rattle.call_rules.specs.Answers.{refusal_number};
 
 pub mod added;
+pub mod calls;
 pub mod finish;
 pub mod operands;
 
 // Why a call is declined. The last is of a policy's text alone.
-#[derive(Clone, Copy)]
+#[derive(Clone, Copy, Debug, PartialEq, Eq)]
 pub enum Refusal {
     NotStore,
     NotHeld,
@@ -20,14 +21,13 @@ pub enum Refusal {
     TooLong,
 }
 
-// What a call answers.
-#[derive(Clone, Copy)]
+// What a call that is not declined answers.
+#[derive(Clone, Copy, Debug, PartialEq, Eq)]
 pub enum Answer {
     Handle(u32),
     Truth(bool),
     SetNode(u32, u32),
     RelationNode(u32, u32, u32, u32),
-    Declined(Refusal),
     Pair(u32, u32),
     Nothing,
     Member(u32),
@@ -35,29 +35,24 @@ pub enum Answer {
 
 // What a call that may add nodes returns: its answer, and the nodes that it added.
 #[derive(Clone, Copy)]
-pub struct Reply {
-    pub answer: Answer,
+pub struct Reply<A> {
+    pub answer: A,
     pub added: added::NodeCounts,
 }
 
-// Whether a call is declined: the level of its operands, or why.
-#[derive(Clone, Copy)]
-pub enum Check {
-    Level(u32),
-    No(Refusal),
-}
-
 // The refusal's number.
-pub fn number_of(r: Refusal) -> u32
-    ensures { result ≡ refusal_number r }
-{
-    match r {
-        Refusal::NotStore => 1,
-        Refusal::NotHeld => 2,
-        Refusal::LevelsDiffer => 3,
-        Refusal::NoChildren => 4,
-        Refusal::OutOfRange => 5,
-        Refusal::UsedUp => 6,
-        Refusal::TooLong => 10,
+impl From<Refusal> for u32 {
+    ghost from_gives = { λ r n. n ≡ refusal_number r };
+
+    fn from(r: Refusal) -> u32 {
+        match r {
+            Refusal::NotStore => 1,
+            Refusal::NotHeld => 2,
+            Refusal::LevelsDiffer => 3,
+            Refusal::NoChildren => 4,
+            Refusal::OutOfRange => 5,
+            Refusal::UsedUp => 6,
+            Refusal::TooLong => 10,
+        }
     }
 }

@@ -6,14 +6,15 @@ ghost use Rattle.call_rules.specs.Outcome.{of_one, of_pair, of_two, of_path, of_
 ghost use Rattle.call_rules.specs.Outcome.{of_packets, of_given};
 ghost use Rattle.call_rules.specs.Checking.{Low, Checks, ChecksBoth, AllAt};
 
+use crate::Refusal;
+use memory::power;
+use memory::property_words::{level, place_of};
+
 // Whether a handle is held among n nodes of c numbers.
 fn is_held(c: usize, n: usize, h: u32) -> bool
     ensures { (K : Kind) (S : Store) → c ≡ arity K → length (nodes K S) ≡ n → is_held K S h ≡ result }
 {
-    if h < 2 {
-        return true;
-    }
-    memory::property_words::place_of(c, h) < n
+    h < 2 || place_of(c, h) < n
 }
 
 // Whether four handles are held.
@@ -21,118 +22,106 @@ fn all_held(c: usize, n: usize, x00: u32, x01: u32, x10: u32, x11: u32) -> bool
     ensures { (K : Kind) (S : Store) → c ≡ arity K → length (nodes K S) ≡ n
         → (is_held K S «x00» && (is_held K S «x01» && (is_held K S «x10» && is_held K S «x11»))) ≡ result }
 {
-    if !is_held(c, n, x00) {
-        return false;
-    }
-    if !is_held(c, n, x01) {
-        return false;
-    }
-    if !is_held(c, n, x10) {
-        return false;
-    }
-    is_held(c, n, x11)
+    is_held(c, n, x00) && is_held(c, n, x01) && is_held(c, n, x10) && is_held(c, n, x11)
 }
 
 // One operand.
-pub fn one(nodes: &[u32], c: usize, n: usize, k: u32, a: u32) -> crate::Check
+pub fn one(nodes: &[u32], c: usize, n: usize, k: u32, a: u32) -> Result<u32, Refusal>
     requires { 0 < c }
     ensures { (K : Kind) → c ≡ arity K → Checks K nodes.now n k (λ S. of_one k K S a) result }
 {
     if !is_held(c, n, a) {
-        return crate::Check::No(crate::Refusal::NotHeld);
+        return Err(Refusal::NotHeld);
     }
-    crate::Check::Level(memory::property_words::level(nodes, c, k, a))
+    Ok(level(nodes, c, k, a))
 }
 
 // One operand that has children.
-pub fn parent(nodes: &[u32], c: usize, n: usize, k: u32, a: u32) -> crate::Check
+pub fn parent(nodes: &[u32], c: usize, n: usize, k: u32, a: u32) -> Result<u32, Refusal>
     requires { 0 < c }
     ensures { (K : Kind) → c ≡ arity K → Checks K nodes.now n k (λ S. of_parent k K S a) result }
 {
-    let check = one(nodes, c, n, k, a);
-    if let crate::Check::Level(l) = check {
-        if l == 0 {
-            return crate::Check::No(crate::Refusal::NoChildren);
-        }
+    let l = one(nodes, c, n, k, a)?;
+    if l == 0 {
+        return Err(Refusal::NoChildren);
     }
-    check
+    Ok(l)
 }
 
 // Two operands of one kind.
-pub fn two(nodes: &[u32], c: usize, n: usize, k: u32, a: u32, b: u32) -> crate::Check
+pub fn two(nodes: &[u32], c: usize, n: usize, k: u32, a: u32, b: u32) -> Result<u32, Refusal>
     requires { 0 < c }
     ensures { (K : Kind) → c ≡ arity K → Checks K nodes.now n k (λ S. of_two k K S a b) result }
 {
-    if !is_held(c, n, a) {
-        return crate::Check::No(crate::Refusal::NotHeld);
+    if !is_held(c, n, a) || !is_held(c, n, b) {
+        return Err(Refusal::NotHeld);
     }
-    if !is_held(c, n, b) {
-        return crate::Check::No(crate::Refusal::NotHeld);
+    let l = level(nodes, c, k, a);
+    if level(nodes, c, k, b) != l {
+        return Err(Refusal::LevelsDiffer);
     }
-    let l = memory::property_words::level(nodes, c, k, a);
-    if memory::property_words::level(nodes, c, k, b) != l {
-        return crate::Check::No(crate::Refusal::LevelsDiffer);
-    }
-    crate::Check::Level(l)
+    Ok(l)
 }
 
 // Two children, for a node above them.
-pub fn two_children(nodes: &[u32], c: usize, n: usize, k: u32, a: u32, b: u32) -> crate::Check
+pub fn two_children(
+    nodes: &[u32],
+    c: usize,
+    n: usize,
+    k: u32,
+    a: u32,
+    b: u32,
+) -> Result<u32, Refusal>
     requires { 0 < c }
     ensures { (K : Kind) → c ≡ arity K → Checks K nodes.now n k (λ S. of_children k K S a b) result }
 {
-    let check = two(nodes, c, n, k, a, b);
-    if let crate::Check::Level(l) = check {
-        if l >= k {
-            return crate::Check::No(crate::Refusal::OutOfRange);
-        }
+    let l = two(nodes, c, n, k, a, b)?;
+    if l >= k {
+        return Err(Refusal::OutOfRange);
     }
-    check
+    Ok(l)
 }
 
 // A field and a value for it.
-pub fn field(k: u32, var: u32, value: u32) -> crate::Check
+pub fn field(k: u32, var: u32, value: u32) -> Result<u32, Refusal>
     ensures { (of_field k var value ≡ result) × Low k result }
 {
-    if var >= k {
-        return crate::Check::No(crate::Refusal::OutOfRange);
+    if var >= k || value >= 2 {
+        return Err(Refusal::OutOfRange);
     }
-    if value >= 2 {
-        return crate::Check::No(crate::Refusal::OutOfRange);
-    }
-    crate::Check::Level(k)
+    Ok(k)
 }
 
 // A field, and two operands of a level above it.
-pub fn branches(nodes: &[u32], c: usize, n: usize, k: u32, var: u32, a: u32, b: u32) -> crate::Check
+pub fn branches(
+    nodes: &[u32],
+    c: usize,
+    n: usize,
+    k: u32,
+    var: u32,
+    a: u32,
+    b: u32,
+) -> Result<u32, Refusal>
     requires { 0 < c }
     ensures { (K : Kind) → c ≡ arity K → Checks K nodes.now n k
         (λ S. of_branches k K S var a b) result }
 {
     if var >= k {
-        return crate::Check::No(crate::Refusal::OutOfRange);
+        return Err(Refusal::OutOfRange);
     }
-    let check = two(nodes, c, n, k, a, b);
-    if let crate::Check::Level(l) = check {
-        if var >= l {
-            return crate::Check::No(crate::Refusal::NoChildren);
-        }
+    let l = two(nodes, c, n, k, a, b)?;
+    if var >= l {
+        return Err(Refusal::NoChildren);
     }
-    check
+    Ok(l)
 }
 
 // Whether three held handles are at this level.
-fn all_at(nodes: &[u32], c: usize, k: u32, level: u32, x01: u32, x10: u32, x11: u32) -> bool
+fn all_at(nodes: &[u32], c: usize, k: u32, l: u32, x01: u32, x10: u32, x11: u32) -> bool
     requires { 0 < c }
-    ensures { AllAt nodes.now c k level «x01» «x10» «x11» result }
+    ensures { AllAt nodes.now c k l «x01» «x10» «x11» result }
 {
-    if memory::property_words::level(nodes, c, k, x01) != level {
-        return false;
-    }
-    if memory::property_words::level(nodes, c, k, x10) != level {
-        return false;
-    }
-    memory::property_words::level(nodes, c, k, x11) == level
+    level(nodes, c, k, x01) == l && level(nodes, c, k, x10) == l && level(nodes, c, k, x11) == l
 }
 
 // Four children, for a node above them.
@@ -145,22 +134,22 @@ pub fn four_children(
     x01: u32,
     x10: u32,
     x11: u32,
-) -> crate::Check
+) -> Result<u32, Refusal>
     requires { 0 < c }
     ensures { (K : Kind) → c ≡ arity K → Checks K nodes.now n k
         (λ S. of_four_children k K S «x00» «x01» «x10» «x11») result }
 {
     if !all_held(c, n, x00, x01, x10, x11) {
-        return crate::Check::No(crate::Refusal::NotHeld);
+        return Err(Refusal::NotHeld);
     }
-    let l = memory::property_words::level(nodes, c, k, x00);
+    let l = level(nodes, c, k, x00);
     if !all_at(nodes, c, k, l, x01, x10, x11) {
-        return crate::Check::No(crate::Refusal::LevelsDiffer);
+        return Err(Refusal::LevelsDiffer);
     }
     if l >= k {
-        return crate::Check::No(crate::Refusal::OutOfRange);
+        return Err(Refusal::OutOfRange);
     }
-    crate::Check::Level(l)
+    Ok(l)
 }
 
 // A relation and a set.
@@ -172,20 +161,17 @@ pub fn pair(
     k: u32,
     a: u32,
     p: u32,
-) -> crate::Check
+) -> Result<u32, Refusal>
     ensures { ChecksBoth relations.now n sets.now m k (λ S. of_pair k S rel a set p) result }
 {
-    if !is_held(4, n, a) {
-        return crate::Check::No(crate::Refusal::NotHeld);
+    if !is_held(4, n, a) || !is_held(2, m, p) {
+        return Err(Refusal::NotHeld);
     }
-    if !is_held(2, m, p) {
-        return crate::Check::No(crate::Refusal::NotHeld);
+    let l = level(relations, 4, k, a);
+    if level(sets, 2, k, p) != l {
+        return Err(Refusal::LevelsDiffer);
     }
-    let l = memory::property_words::level(relations, 4, k, a);
-    if memory::property_words::level(sets, 2, k, p) != l {
-        return crate::Check::No(crate::Refusal::LevelsDiffer);
-    }
-    crate::Check::Level(l)
+    Ok(l)
 }
 
 // A set, a relation and a set.
@@ -198,60 +184,49 @@ pub fn path(
     p: u32,
     a: u32,
     q: u32,
-) -> crate::Check
+) -> Result<u32, Refusal>
     ensures { ChecksBoth relations.now n sets.now m k (λ S. of_path k S p a q) result }
 {
     if !is_held(2, m, q) {
-        return crate::Check::No(crate::Refusal::NotHeld);
+        return Err(Refusal::NotHeld);
     }
-    let check = pair(relations, n, sets, m, k, a, p);
-    if let crate::Check::Level(l) = check {
-        if memory::property_words::level(sets, 2, k, q) != l {
-            return crate::Check::No(crate::Refusal::LevelsDiffer);
-        }
+    let l = pair(relations, n, sets, m, k, a, p)?;
+    if level(sets, 2, k, q) != l {
+        return Err(Refusal::LevelsDiffer);
     }
-    check
-}
-
-// A number as a wider one.
-fn as_u64(x: u32) -> u64
-    ensures { result ≡ x }
-{
-    x as u64
+    Ok(l)
 }
 
 // A set, and a packet of its level where one was given.
-pub fn given(nodes: &[u32], n: usize, k: u32, a: u32, given: u32, last: u32) -> crate::Check
+pub fn given(nodes: &[u32], n: usize, k: u32, a: u32, given: u32, last: u32) -> Result<u32, Refusal>
     requires { k ≤ 32 }
     ensures { Checks set nodes.now n k (λ S. of_given k S a given last) result }
 {
-    let check = one(nodes, 2, n, k, a);
-    if let crate::Check::Level(l) = check {
-        if given != 0 {
-            let most = memory::power(memory::as_level(l));
-            if as_u64(last) >= most {
-                return crate::Check::No(crate::Refusal::OutOfRange);
-            }
-        }
+    let l = one(nodes, 2, n, k, a)?;
+    let asked = given != 0;
+    if asked && u64::from(last) >= power(l as u8) {
+        return Err(Refusal::OutOfRange);
     }
-    check
+    Ok(l)
 }
 
 // A relation, and two packets of its level.
-pub fn packets(nodes: &[u32], n: usize, k: u32, a: u32, input: u32, output: u32) -> crate::Check
+pub fn packets(
+    nodes: &[u32],
+    n: usize,
+    k: u32,
+    a: u32,
+    input: u32,
+    output: u32,
+) -> Result<u32, Refusal>
     requires { k ≤ 32 }
     ensures { Checks rel nodes.now n k
         (λ S. of_packets k S a input output) result }
 {
-    let check = one(nodes, 4, n, k, a);
-    if let crate::Check::Level(l) = check {
-        let most = memory::power(memory::as_level(l));
-        if as_u64(input) >= most {
-            return crate::Check::No(crate::Refusal::OutOfRange);
-        }
-        if as_u64(output) >= most {
-            return crate::Check::No(crate::Refusal::OutOfRange);
-        }
+    let l = one(nodes, 4, n, k, a)?;
+    let most = power(l as u8);
+    if u64::from(input) >= most || u64::from(output) >= most {
+        return Err(Refusal::OutOfRange);
     }
-    check
+    Ok(l)
 }

@@ -1,5 +1,5 @@
 -- `output_bit` and `first_digit`: the bit of the smaller of two ranks, and what is left of the digit when the children are read.
-use mathlib.Core.Path.{◌≡◌, refl, ap, subst}
+use mathlib.Core.Path.{◌≡◌, refl, ap, ◌∙◌, subst}
 use mathlib.Core.List.{List, [], ◌∷◌}
 use Prim.Native.Nat.{ℕ, zero, suc, ◌+◌, ◌-◌, ◌^◌, ◌<◌, ◌≤◌, min}
 use native.Mathlib.Omega.{arith}
@@ -7,10 +7,13 @@ use borrow.Author.Tests.{lt-ltb, le-ltb}
 use Rattle.model.specs.FirstInputs.{first_input, output_bit, first_digit_kids, first_digit}
 use Rattle.model.specs.Programs.{less, Prog, panic, ret, ask, look, ◌>>=◌}
 use Rattle.model.specs.Store.{Kind, set, rel}
-use Rattle.memory.specs.Performing.{run_state, Condition, PerformsOn, OtherNodes, ReducesOn, ReadsChildren}
-use Rattle.memory.specs.declared.RunState.{RunState}
+use Rattle.std.specs.Prelude.{Bool, true, false, Option, Some, None, unwrap_or}
+use Rattle.memory.specs.Performing.{RunState, going, ended, Condition, PerformsOn, OtherNodes, ReducesOn, ReadsChildren}
 use Rattle.memory.proofs.OtherNodes.{read_of_other}
-use Rattle.memory.proofs.Steps.{performs_then, begin, by, looked, performs_ret, performs_less, performs_not_less}
+use Rattle.memory.proofs.Steps.{begin, by, looked, performs_less, performs_not_less, performs_ret}
+use Rattle.memory.proofs.Stopping.{made}
+use Rattle.first_paths.specs.Digits.{bit, bit_or_none, digit}
+use Rattle.first_paths.proofs.Halves.{performs_number}
 
 -- OUTPUT_BIT: x and y give ranks of level l
 abbrev which_bit : ℕ → Prog → Prog → Prog
@@ -20,32 +23,48 @@ pub bit_is : (l p a b q0 q1 : ℕ) → output_bit l p a b q0 q1 ≡ which_bit l 
 unfolding output_bit
 bit_is l p a b q0 q1 = refl
 
-module _ {Q : Condition} {K : Kind} (l : ℕ) {x y : Prog} {s r t z : RunState} {m m₁ m₂ w w₁ w₂ : List ℕ} (d : PerformsOn Q K x s m m₁ w w₁ r)
-    (e : PerformsOn Q K y r m₁ m₂ w₁ w₂ t) where
-  pub one_first : t.h < r.h → z ≡ run_state t.ok t.n 1 → PerformsOn Q K (which_bit l x y) s m m₂ w w₂ z
-  one_first i f = performs_then d (performs_then e (performs_less t.h r.h (lt-ltb _ _ i) (performs_ret 1 f)))
+module _ {Q : Condition} {K : Kind} (l : ℕ) {x y : Prog} {s : RunState} {n r t : ℕ} {m m₁ m₂ w w₁ w₂ : List ℕ}
+    (d : PerformsOn Q K x s m m₁ w w₁ (ended n (Some r))) (e : PerformsOn Q K y (going n) m₁ m₂ w₁ w₂ (ended n (Some t))) where
+  pub one_first : t < r → PerformsOn Q K (which_bit l x y) s m m₂ w w₂ (ended n (Some 1))
+  one_first i = made d (made e (performs_less t r (lt-ltb _ _ i) performs_ret))
 
-  module _ {none : ℕ} (i : r.h ≤ t.h) (k : none ≡ 2 ^ l) where
-    pub zero_first : r.h < none → z ≡ run_state t.ok t.n 0 → PerformsOn Q K (which_bit l x y) s m m₂ w w₂ z
-    zero_first g f = performs_then d (performs_then e (performs_not_less t.h r.h (le-ltb _ _ i)
-        (performs_less r.h (2 ^ l) (lt-ltb _ _ (subst (λ n. r.h < n) k g)) (performs_ret 0 f))))
+  module _ {none : ℕ} (i : r ≤ t) (k : none ≡ 2 ^ l) where
+    pub zero_first : r < none → PerformsOn Q K (which_bit l x y) s m m₂ w w₂ (ended n (Some 0))
+    zero_first g = made d (made e (performs_not_less t r (le-ltb _ _ i)
+        (performs_less r (2 ^ l) (lt-ltb _ _ (subst (λ n. r < n) k g)) performs_ret)))
 
-    pub none_first : none ≤ r.h → z ≡ run_state t.ok t.n 2 → PerformsOn Q K (which_bit l x y) s m m₂ w w₂ z
-    none_first g f = performs_then d (performs_then e (performs_not_less t.h r.h (le-ltb _ _ i)
-        (performs_not_less r.h (2 ^ l) (le-ltb _ _ (subst (λ n. n ≤ r.h) k g)) (performs_ret 2 f))))
+    pub none_first : none ≤ r → PerformsOn Q K (which_bit l x y) s m m₂ w w₂ (ended n (Some 2))
+    none_first g = made d (made e (performs_not_less t r (le-ltb _ _ i)
+        (performs_not_less r (2 ^ l) (le-ltb _ _ (subst (λ n. n ≤ r) k g)) performs_ret)))
 
 -- FIRST_DIGIT: x gives the output's bit where the input's is 0, or 2, and y where it is 1
 abbrev digit_of : Prog → Prog → Prog
 digit_of x y = x >>= λ d. ask (less d 2) (ret d) (y >>= λ e. ret (2 + min e 1))
 
-module _ {Q : Condition} {K : Kind} {x y : Prog} {s r : RunState} {m m₁ w w₁ : List ℕ} (d : PerformsOn Q K x s m m₁ w w₁ r) where
-  pub input_bit_zero : r.h < 2 → PerformsOn Q K (digit_of x y) s m m₁ w w₁ r
-  input_bit_zero i = performs_then d (performs_less r.h 2 (lt-ltb _ _ i) (performs_ret r.h refl))
+-- a bit is below 2, and one that there may not be is asked for as 1
+bit_below : (b : Bool) → bit b < 2
+bit_below false = omega arith
+bit_below true = omega arith
 
-  pub input_bit_one : {t z : RunState} {m₂ w₂ : List ℕ} {b : ℕ} → 2 ≤ r.h → PerformsOn Q K y r m₁ m₂ w₁ w₂ t → b ≡ min t.h 1
-      → z ≡ run_state t.ok t.n (2 + b) → PerformsOn Q K (digit_of x y) s m m₂ w w₂ z
-  input_bit_one {t} {z} i e g f = performs_then d (performs_not_less r.h 2 (le-ltb _ _ i)
-      (performs_then e (performs_ret (2 + min t.h 1) (subst (λ n. z ≡ run_state t.ok t.n (2 + n)) g f))))
+bit_there : (r : Option Bool) → 2 + bit (unwrap_or r true) ≡ 2 + min (bit_or_none r) 1
+bit_there None = refl
+bit_there (Some false) = refl
+bit_there (Some true) = refl
+
+no_bit : (r : Option Bool) → ((b : Bool) → r ≡ Some b → ⊥) → r ≡ None
+no_bit None f = refl
+no_bit (Some b) f = absurd (f b refl)
+
+module _ {Q : Condition} {K : Kind} {x y : Prog} {s : RunState} {n : ℕ} {m m₁ w w₁ : List ℕ} where
+  pub input_bit_zero : (b : Bool) → PerformsOn Q K x s m m₁ w w₁ (ended n (Some (bit b)))
+      → PerformsOn Q K (digit_of x y) s m m₁ w w₁ (ended n (Some (digit false b)))
+  input_bit_zero b d = made d (performs_less (bit b) 2 (lt-ltb _ _ (bit_below b)) (performs_number (omega arith)))
+
+  pub input_bit_one : (r t : Option Bool) {b : Bool} {m₂ w₂ : List ℕ} → PerformsOn Q K x s m m₁ w w₁ (ended n (Some (bit_or_none r)))
+      → ((b : Bool) → r ≡ Some b → ⊥) → PerformsOn Q K y (going n) m₁ m₂ w₁ w₂ (ended n (Some (bit_or_none t))) → b ≡ unwrap_or t true
+      → PerformsOn Q K (digit_of x y) s m m₂ w w₂ (ended n (Some (digit true b)))
+  input_bit_one r t d e f g = made (subst (λ r. PerformsOn Q K x s m m₁ w w₁ (ended n (Some (bit_or_none r)))) (no_bit r e) d)
+      (performs_not_less 2 2 refl (made f (performs_number (ap (λ b. 2 + bit b) g ∙ bit_there t))))
 
 pub digit_zero : (l p a q : ℕ) → l ≡ 0 → first_digit l p a q ≡ panic
 unfolding first_digit

@@ -1,9 +1,9 @@
 -- The first member of a set from a rank on: none of an empty set, the one packet of level 0 from rank 0, and above level 0 by both halves.
-use mathlib.Core.Path.{◌≡◌, sym, ap, ◌∙◌, subst}
+use mathlib.Core.Path.{◌≡◌, refl, sym, ap, ◌∙◌, subst}
 use mathlib.Core.Logic.{◌↔◌}
 use mathlib.Core.List.{List, [], ◌∷◌}
 use mathlib.Core.Bool.{true, false, not}
-use Prim.Native.Nat.{ℕ, suc, ◌+◌, ◌-◌, ◌^◌, ◌<◌, ◌≤◌, zero-le, min}
+use Prim.Native.Nat.{ℕ, zero, suc, ◌+◌, ◌-◌, ◌^◌, ◌<◌, ◌≤◌, zero-le, min}
 use native.Mathlib.Omega.{arith}
 use native.Mathlib.Nat.{one-mul, zero-mul}
 use lib.Dec.{T}
@@ -93,13 +93,17 @@ module _ {m w : List ℕ} {l p f : ℕ} {r : Properties} (N : KnowsProperties se
         (from_empty (plain set B m n) l p f A (subst T (sym ((N.knows k B n i F W A).empty ∙ t)) tt));
   }
 
-  pub find_one : r.empty ≡ false → l ≡ 0 → f ≡ 0 → FindsFrom l p f m w 0
-  find_one t e g = subst (λ l. KnowsProperties set m w l p r → FindsFrom l p f m w 0) (sym e) (λ N. record {
-    finds = λ k B n i F W A. the_one (plain set B m n) p f A (subst (λ b. T (not b)) (sym ((N.knows k B n i F W A).empty ∙ t)) tt) g;
-  }) N
-
-pub find_later : {m w : List ℕ} {l p f : ℕ} → l ≡ 0 → (f ≡ 0 → ⊥) → FindsFrom l p f m w 1
-find_later {m} {w} {l} {p} {f} e g = subst (λ l. FindsFrom l p f m w 1) (sym e) (record { finds = λ k B n i F W A. nothing_later (plain set B m n) p f g })
+  -- at level 0 there is one packet, of rank 0
+  pub find_at_0 : {v : ℕ} → r.empty ≡ false → l ≡ 0 → v ≡ min f 1 → FindsFrom l p f m w v
+  find_at_0 {v} t e g = subst (λ l. KnowsProperties set m w l p r → FindsFrom l p f m w v) (sym e) (λ N. go N f g) N
+    where
+      go : KnowsProperties set m w 0 p r → (f : ℕ) → v ≡ min f 1 → FindsFrom 0 p f m w v
+      go N zero g = subst (FindsFrom 0 p 0 m w) (let e : 0 ≡ v = omega (arith, g) in e) (record {
+        finds = λ k B n i F W A. the_one (plain set B m n) p 0 A (subst (λ b. T (not b)) (sym ((N.knows k B n i F W A).empty ∙ t)) tt) refl;
+      })
+      go N (suc f) g = subst (FindsFrom 0 p (suc f) m w) (let e : 1 ≡ v = omega (arith, g) in e) (record {
+        finds = λ k B n i F W A. nothing_later (plain set B m n) p (suc f) (λ e. absurd (let z : ⊥ = omega arith in z));
+      })
 
 -- the children of p, of level l, are y₀ and y₁, and are held in every store on the nodes m
 module _ {m : List ℕ} {p y₀ y₁ : ℕ} (l : ℕ) (X : ReadsChildren set m p (y₀ ∷ y₁ ∷ [])) (B : Store) (n : ℕ) (i : n ≤ places 2 m)

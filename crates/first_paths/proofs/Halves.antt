@@ -1,28 +1,33 @@
 -- `first_member`: what is left of it after the shortcuts, and the rank of the first of two halves.
-use mathlib.Core.Path.{◌≡◌, refl, subst}
+use mathlib.Core.Path.{◌≡◌, refl, sym, subst}
 use mathlib.Core.List.{List, [], ◌∷◌}
 use Prim.Native.Nat.{ℕ, suc, ◌+◌, ◌-◌, ◌^◌, ◌<◌, ◌≤◌, min}
 use native.Mathlib.Omega.{arith}
 use borrow.Author.Tests.{lt-ltb, le-ltb}
 use Rattle.model.specs.FirstInputs.{from_halves, first_member_op, first_member}
-use Rattle.model.specs.Programs.{Prog}
+use Rattle.model.specs.Programs.{Prog, ret}
 use Rattle.model.specs.Recursion.{node1, op1}
 use Rattle.model.specs.Store.{Kind, set}
 use Rattle.model.proofs.Recursion.{node1_open}
-use Rattle.memory.specs.Performing.{run_state, Condition, PerformsOn, Reduces, ReadsChildren}
-use Rattle.memory.specs.declared.RunState.{RunState}
-use Rattle.memory.proofs.Steps.{performs_then, begin, by, looked, performs_ret, performs_less, performs_not_less}
+use Rattle.std.specs.Prelude.{Some}
+use Rattle.memory.specs.Performing.{RunState, going, ended, Condition, PerformsOn, Reduces, ReadsChildren}
+use Rattle.memory.proofs.Steps.{begin, by, looked, performs_less, performs_not_less, performs_ret}
+use Rattle.memory.proofs.Stopping.{made}
 
--- the first program finds a packet, and the second is not run; it finds none
-module _ {Q : Condition} {K : Kind} {p q : Prog} {s r : RunState} {m m₁ w w₁ : List ℕ} (l : ℕ) {half : ℕ} (e : half ≡ 2 ^ l)
-    (d : PerformsOn Q K p s m m₁ w w₁ r) where
-  pub in_first : r.h < half → PerformsOn Q K (from_halves l p q) s m m₁ w w₁ r
-  in_first i = performs_then d (performs_less r.h (2 ^ l) (lt-ltb _ _ (subst (λ n. r.h < n) e i)) (performs_ret r.h refl))
+-- a number is given by another name
+pub performs_number : {Q : Condition} {K : Kind} {n h h' : ℕ} {m w : List ℕ} → h' ≡ h → PerformsOn Q K (ret h) (going n) m m w w (ended n (Some h'))
+performs_number {Q} {K} {n} {h} {m = m} {w} e = subst (λ x. PerformsOn Q K (ret h) (going n) m m w w (ended n (Some x))) (sym e) performs_ret
 
-  pub in_second : {t z : RunState} {m₂ w₂ : List ℕ} {n : ℕ} → half ≤ r.h → PerformsOn Q K q r m₁ m₂ w₁ w₂ t → n ≡ 2 ^ l + min t.h (2 ^ l)
-      → z ≡ run_state t.ok t.n n → PerformsOn Q K (from_halves l p q) s m m₂ w w₂ z
-  in_second {t} {z} i f g k = performs_then d (performs_not_less r.h (2 ^ l) (le-ltb _ _ (subst (λ n. n ≤ r.h) e i))
-      (performs_then f (performs_ret (2 ^ l + min t.h (2 ^ l)) (subst (λ n. z ≡ run_state t.ok t.n n) g k))))
+-- the first program finds a packet, of rank r, and the second is not run; it finds none
+module _ {Q : Condition} {K : Kind} {p q : Prog} {s : RunState} {n r : ℕ} {m m₁ w w₁ : List ℕ} (l : ℕ) {half : ℕ} (e : half ≡ 2 ^ l)
+    (d : PerformsOn Q K p s m m₁ w w₁ (ended n (Some r))) where
+  pub in_first : r < half → PerformsOn Q K (from_halves l p q) s m m₁ w w₁ (ended n (Some r))
+  in_first i = made d (performs_less r (2 ^ l) (lt-ltb _ _ (subst (λ n. r < n) e i)) performs_ret)
+
+  pub in_second : {t v : ℕ} {m₂ w₂ : List ℕ} → half ≤ r → PerformsOn Q K q (going n) m₁ m₂ w₁ w₂ (ended n (Some t)) → v ≡ 2 ^ l + min t (2 ^ l)
+      → PerformsOn Q K (from_halves l p q) s m m₂ w w₂ (ended n (Some v))
+  in_second i f g = made d (performs_not_less r (2 ^ l) (le-ltb _ _ (subst (λ n. n ≤ r) e i))
+      (made f (performs_number g)))
 
 module _ (l p : ℕ) where
   pub member_is : first_member l p ≡ first_member_op.short l p (node1 first_member_op l p)

@@ -1,3 +1,4 @@
 pub mod Inputs
 pub mod FromRanks
+pub mod Digits
 pub mod Pairs

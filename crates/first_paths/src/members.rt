@@ -1,20 +1,21 @@
 // Ranks: of a packet by its number, of the first packet of a set, and of the first from a rank on.
-ghost use Rattle.std.specs.Prelude.{◌≡◌, ◌+◌, ◌^◌, ◌≤◌, min};
+ghost use Rattle.std.specs.Prelude.{◌≡◌, Some, ℕ, ◌+◌, ◌^◌, ◌≤◌, min};
 ghost use Rattle.model.specs.Store.{set};
 ghost use Rattle.model.specs.Packets.{packet};
 ghost use Rattle.model.specs.FieldOrder.{rank};
 ghost use Rattle.model.specs.FirstInputs.{first_member};
-ghost use Rattle.memory.specs.Performing.{Performs};
+ghost use Rattle.memory.specs.Performing.{going, ended, Performs};
 ghost use Rattle.first_paths.specs.FromRanks.{FindsFrom};
 
-use memory::RunState;
+use memory::power;
+use memory::property_words::set_properties;
 
-// The rank that stands for no packet of this level.
+// The rank that stands for no packet of this level, as in the programs of `model`: it is above every rank, so that the lesser of two needs no case for none.
 pub fn none_at(level: u8) -> u32
     requires { level ≤ 31 }
     ensures { result ≡ 2 ^ level }
 {
-    memory::power(level) as u32
+    power(level) as u32
 }
 
 // The rank of the packet with the number n, whose bits it has in the other order; so it is also the number of the packet of rank n.
@@ -22,13 +23,11 @@ pub fn reversed(level: u8, n: u32) -> u32
     requires { level ≤ 32 }
     ensures { result ≡ rank (packet level n) }
 {
-    let mut r: u32 = 0;
+    let mut r = 0;
     let mut rest = n;
-    let mut i: u8 = 0;
-    while i < level {
+    for _ in 0..level {
         r = 2 * r + rest % 2;
-        rest = rest / 2;
-        i += 1;
+        rest /= 2;
     }
     r
 }
@@ -39,68 +38,54 @@ pub fn in_second_half(n: u32, level: u8) -> u32
     ensures { result ≡ 2 ^ level + min n (2 ^ level) }
 {
     let half = none_at(level);
-    if n < half {
-        return half + n;
-    }
-    half + half
+    half + n.min(half)
 }
 
-// The rank of the first packet of a set.
-pub fn first_member(sets: &[u32], work: &[u32], s: RunState, level: u8, p: u32) -> RunState
+// The rank of the first packet of a set. Of level 0, one that is not empty has the packet of rank 0.
+pub fn first_member(sets: &[u32], work: &[u32], level: u8, p: u32) -> u32
     requires { level ≤ 31 }
-    ensures { Performs set (first_member level p) s sets.now sets.now work.now work.now result }
+    ensures { (n : ℕ) → Performs set (first_member level p) (going n) sets.now sets.now work.now work.now (ended n (Some result)) }
 {
-    if !s.ok {
-        return s;
-    }
-    let pp = memory::property_words::set_properties(sets, work, level, p);
+    let pp = set_properties(sets, work, level, p);
     if pp.empty {
-        return memory::insert::with_handle(s, none_at(level));
+        return none_at(level);
     }
-    if pp.universal {
-        return memory::insert::with_handle(s, 0);
-    }
-    if level == 0 {
-        return s;
+    if pp.universal || level == 0 {
+        return 0;
     }
     let x = sets::get(sets, p);
     let below = level - 1;
-    let r0 = first_member(sets, work, s, below, x.x0);
-    if r0.h < none_at(below) {
+    let r0 = first_member(sets, work, below, x.x0);
+    if r0 < none_at(below) {
         return r0;
     }
-    let r1 = first_member(sets, work, r0, below, x.x1);
-    memory::insert::with_handle(r1, in_second_half(r1.h, below))
+    let r1 = first_member(sets, work, below, x.x1);
+    in_second_half(r1, below)
 }
 
-// The rank of the first packet of a set from the rank `from` on; 2^level where there is none. It goes down along `from`, and where the half that has `from`
+// The rank of the first packet of a set from the rank `from` on; 2^level, as `none_at` has it, where there is none. It goes down along `from`, and where the half that has `from`
 // has none left, to the first packet of the other. An empty set ends at once, so that it calls itself at most four times a level.
 pub fn first_from(sets: &[u32], work: &[u32], level: u8, p: u32, from: u64) -> u64
     requires { level ≤ 32 }
     ensures small { result ≤ 2 ^ level }
     ensures first { FindsFrom level p from sets.now work.now result }
 {
-    let pp = memory::property_words::set_properties(sets, work, level, p);
+    let pp = set_properties(sets, work, level, p);
     if pp.empty {
-        return memory::power(level);
+        return power(level);
     }
     if level == 0 {
-        if from == 0 {
-            return 0;
-        }
-        return 1;
+        return from.min(1);
     }
     let x = sets::get(sets, p);
     let below = level - 1;
-    let half = memory::power(below);
+    let half = power(below);
     if from >= half {
-        let rest = first_from(sets, work, below, x.x1, from - half);
-        return half + rest;
+        return half + first_from(sets, work, below, x.x1, from - half);
     }
     let r0 = first_from(sets, work, below, x.x0, from);
     if r0 < half {
         return r0;
     }
-    let r1 = first_from(sets, work, below, x.x1, 0);
-    half + r1
+    half + first_from(sets, work, below, x.x1, 0)
 }

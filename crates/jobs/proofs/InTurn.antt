@@ -1,11 +1,13 @@
 -- The loop over a list of jobs, on lists: what its turns leave is what the list's definition says, what holds at the head of a turn, that a turn keeps
 -- it, and what a call gives whose turns are over. From the definitions alone; nothing here speaks of memory.
 use mathlib.Core.Path.{◌≡◌, refl, sym, ap, ◌∙◌}
-use Prim.Native.Nat.{ℕ, zero, suc, ◌+◌, ◌-◌, ◌*◌, ◌^◌, ◌<◌, ◌≤◌}
+use Prim.Native.Nat.{ℕ, zero, suc, ◌+◌, ◌-◌, ◌<◌, ◌≤◌}
 use mathlib.Core.Bool.{Bool, true, false}
+use Rattle.std.specs.Prelude.{Result, Ok, Err}
+use Rattle.std.specs.Result.{result_unwrap_or}
 use mathlib.Core.List.{List, [], ◌∷◌, ◌++◌, append-nil}
 use native.Mathlib.Omega.{arith}
-use lib.Dec.{ltb, leb, eqb}
+use lib.Dec.{ltb, leb}
 use lib.ListN.{length, get_or, take, set, replicate, length-set, length-take, length-replicate, get_or-eq_default}
 use borrow.Author.Tests.{ltb-true, ltb-false}
 use Rattle.model.specs.Store.{pick}
@@ -15,13 +17,14 @@ use Rattle.store_check.specs.Valid.{is_store}
 use Rattle.call_rules.specs.Added.{held_in, less, counted}
 use Rattle.call_rules.specs.Outcome.{Outcome, outcome}
 use Rattle.call_rules.specs.declared.Answer.{Answer}
+use Rattle.call_rules.specs.declared.Refusal.{Refusal}
 use Rattle.call_rules.specs.declared.Refusal.TheVariants.{NotStore, OutOfRange}
 use Rattle.packing.specs.Packed.{with_added}
 use Rattle.packing.specs.declared.AddedReply.{AddedReply}
 use Rattle.store.specs.Calls.{Call, step}
 use Rattle.jobs.specs.Jobs.{Turn, turn, take_turn, Progress, turn_after, run_jobs, ran_jobs, declined, JobsAnswer, jobs_answer, most_jobs}
 use Rattle.jobs.specs.Jobs.{jobs_on, jobs_step}
-use Rattle.jobs.specs.ByValue.{zeros, place_of, TakesTurn, turns_of, begun_of, concluded}
+use Rattle.jobs.specs.ByValue.{zeros, place_of, TakesTurn, judged, begun_of, in_halves, concluded}
 use Rattle.jobs.specs.Packed.{packed_jobs, RunsJobs}
 use Rattle.jobs.specs.declared.Job.{Job}
 use Rattle.jobs.specs.declared.turns.Tally.{Tally}
@@ -73,7 +76,7 @@ abbrev pub progress : {X : Type 0} → List Job → ℕ → X → Progress X
 progress js n x = record { jobs = js; left = n; state = x }
 
 -- THE TURNS of a list, by their places
-module _ {X : Type 0} (act : Call → X → Outcome Answer X) where
+module _ {X : Type 0} (act : Call → X → Outcome (Result Answer Refusal) X) where
   abbrev pub turn_at : ℕ → Progress X → Turn X
   turn_at i s = turn_after act s.left (take i s.jobs) (get_or s.jobs i no_job) s.state
 
@@ -110,14 +113,22 @@ named_at ys i n h = by_test (λ b. ltb n i ≡ b → get_or ys (pick b n i) no_j
     (λ _ e. let l : i ≤ n = ltb-false n i e in sym (get_or-eq_default (take i ys) (get_or ys i no_job) (omega (arith, length-take i ys, l))))
     refl
 
--- it is at most i
-pub place_most : (n i : ℕ) → place_of n i ≤ i
-place_most n i = by_test (λ b. ltb n i ≡ b → pick b n i ≤ i) (ltb n i) (λ _ e. let l : n < i = ltb-true n i e in omega (arith, l)) (λ _ e. omega arith) refl
+-- by the two tests that decline a whole call: its turns, or why it is declined
+abbrev judged_by : Bool → Bool → ℕ → Result ℕ Refusal
+judged_by z y n = pick z (pick y (Ok n) (Err OutOfRange)) (Err NotStore)
+
+-- the turns that a call on n jobs has, none where it is declined
+abbrev pub turns_of : Memories → ℕ → ℕ
+turns_of M n = result_unwrap_or (judged M n) 0
 
 -- no call has more turns than jobs
+turns_by : (z y : Bool) (n : ℕ) → result_unwrap_or (judged_by z y n) 0 ≤ n
+turns_by true true n = omega arith
+turns_by true false n = omega arith
+turns_by false y n = omega arith
+
 pub turns_most : (M : Memories) (n : ℕ) → turns_of M n ≤ n
-turns_most M n = by_test (λ b. pick b (pick (leb n most_jobs) n 0) 0 ≤ n) (is_store M)
-    (λ _. by_test (λ b. pick b n 0 ≤ n) (leb n most_jobs) (λ _. omega arith) (λ _. omega arith)) (λ _. omega arith)
+turns_most M n = turns_by (is_store M) (leb n most_jobs) n
 
 -- THE HEAD OF A TURN. A call that is lent the jobs js, the memories M and the working memory w
 module _ (js : List Job) (limit : ℕ) (M : Memories) (w : List ℕ) where
@@ -137,9 +148,9 @@ module _ (js : List Job) (limit : ℕ) (M : Memories) (w : List ℕ) where
     pub held : tally.held ≡ held_in here
     pub same : turns step left i (progress ys tally.left here) ≡ final
 
-  -- by the two tests that decline a whole call: what it returns, and its outcome
+  -- by these tests: what a call returns, and its outcome
   abbrev answered_by : Bool → Bool → ℕ → ℕ
-  answered_by z y n = (let r : ℕ = pick z (pick y 0 5) 1 in pick (eqb r 0) (limit - n) (r * 2 ^ 32))
+  answered_by z y n = in_halves (judged_by z y (length js)) (limit - n)
 
   abbrev returned_by : Bool → Bool → Progress Memories → AddedReply × List Job
   returned_by z y s = (with_added (answered_by z y s.left) (less (held_in s.state) (held_in M)), s.jobs)
@@ -149,7 +160,7 @@ module _ (js : List Job) (limit : ℕ) (M : Memories) (w : List ℕ) where
       pick z (pick y (outcome (jobs_answer (ran_jobs (limit - v.left)) v.jobs) v.state) (outcome (jobs_answer (declined OutOfRange) js) M))
       (outcome (jobs_answer (declined NotStore) js) M))
 
-  says_by : (z y : Bool) (s : Progress Memories) → s ≡ turns step (pick z (pick y (length js) 0) 0) 0 (progress js limit M)
+  says_by : (z y : Bool) (s : Progress Memories) → s ≡ turns step (result_unwrap_or (judged_by z y (length js)) 0) 0 (progress js limit M)
       → (returned_by z y s ≡ packed_jobs (counted held_in M (outcome_by z y)).answer) × (s.state ≡ (outcome_by z y).state)
   unfolding turns
   says_by true true s e =

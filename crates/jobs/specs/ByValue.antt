@@ -1,19 +1,25 @@
 -- What the functions say that take a job, or what a call begins with, by value.
-use Rattle.std.specs.Prelude.{◌≡◌, List, ℕ, ◌-◌, ◌*◌, ◌^◌, eqb, ltb, leb, length, replicate}
+use Rattle.std.specs.Prelude.{◌≡◌, List, ℕ, ◌-◌, ◌*◌, ◌^◌, ltb, leb, length, replicate, Result, Ok, Err}
 use Rattle.model.specs.Store.{pick}
 use Rattle.store_check.specs.Memory.{Memories}
 use Rattle.store_check.specs.Valid.{is_store}
 use Rattle.call_rules.specs.Added.{held_in, less}
+use Rattle.call_rules.specs.Answers.{refusal_number}
 use Rattle.call_rules.specs.Outcome.{outcome}
+use Rattle.call_rules.specs.declared.Refusal.{Refusal}
+use Rattle.call_rules.specs.declared.Refusal.TheVariants.{NotStore, OutOfRange}
 use Rattle.packing.specs.Packed.{with_added}
 use Rattle.packing.specs.declared.AddedReply.{AddedReply}
 use Rattle.store.specs.Calls.{step}
 use Rattle.jobs.specs.Operations.{as_call}
-use Rattle.jobs.specs.Jobs.{Asks, calls, refuses, carried_out, turn, take_turn, most_jobs}
+use Rattle.jobs.specs.Jobs.{not_run, set_handle, relation_handle, yes_or_no, refused, Asks, calls, refuses, carried_out, turn, take_turn, most_jobs}
 use Rattle.jobs.specs.declared.Job.{Job}
 use Rattle.jobs.specs.declared.begins.Begun.{Begun}
-use Rattle.jobs.specs.declared.turns.Asked.{Asked}
-use Rattle.jobs.specs.declared.turns.Asked.TheVariants.{Call, Refusal}
+use Rattle.jobs.specs.declared.operations.StoreCall.{StoreCall}
+use Rattle.jobs.specs.declared.turns.JobRefusal.{JobRefusal}
+use Rattle.jobs.specs.declared.turns.JobRefusal.TheVariants.{NoSuchAnswer, UnknownOperation}
+use Rattle.jobs.specs.declared.turns.Kind.{Kind}
+use Rattle.jobs.specs.declared.turns.Kind.TheVariants.{NotRun, SetHandle, RelationHandle, YesOrNo, Refused}
 use Rattle.jobs.specs.declared.turns.Places.{Places}
 use Rattle.jobs.specs.declared.turns.Tally.{Tally}
 use Rattle.jobs.specs.declared.turns.Turned.{Turned}
@@ -28,9 +34,22 @@ place_of n i = pick (ltb n i) n i
 abbrev pub places_of : Job → ℕ → Places
 places_of j i = record { a = place_of j.a.number i; b = place_of j.b.number i; c = place_of j.c.number i }
 
-abbrev pub as_asks : Asked → Asks
-as_asks (Call c) = calls (as_call c)
-as_asks (Refusal n) = refuses n
+-- the number of a kind of answer
+abbrev pub kind_number : Kind → ℕ
+kind_number NotRun = not_run
+kind_number SetHandle = set_handle
+kind_number RelationHandle = relation_handle
+kind_number YesOrNo = yes_or_no
+kind_number Refused = refused
+
+-- the number that a job is refused with
+abbrev pub job_refusal_number : JobRefusal → ℕ
+job_refusal_number NoSuchAnswer = 11
+job_refusal_number UnknownOperation = 12
+
+abbrev pub as_asks : Result StoreCall JobRefusal → Asks
+as_asks (Ok c) = calls (as_call c)
+as_asks (Err r) = refuses (job_refusal_number r)
 
 -- the job j, which asks for this, is run on the memories M: r is the job with its answer, and M' are the memories after it; zeros in the working
 -- memory stay
@@ -44,16 +63,17 @@ pub record TakesTurn (n : ℕ) (j a b c : Job) (M M' : Memories) (w w' : List �
   pub held_is : r.tally.held ≡ held_in M'
   pub zeros_stay : w ≡ zeros w → w' ≡ zeros w
 
--- how a call begins on n jobs: its turns, none where it is declined, and why it is
-abbrev pub turns_of : Memories → ℕ → ℕ
-turns_of M n = pick (is_store M) (pick (leb n most_jobs) n 0) 0
-
-abbrev pub refusal_of : Memories → ℕ → ℕ
-refusal_of M n = pick (is_store M) (pick (leb n most_jobs) 0 5) 1
+-- how a call begins on n jobs: its turns, or why it is declined
+abbrev pub judged : Memories → ℕ → Result ℕ Refusal
+judged M n = pick (is_store M) (pick (leb n most_jobs) (Ok n) (Err OutOfRange)) (Err NotStore)
 
 abbrev pub begun_of : Memories → ℕ → ℕ → Begun
-begun_of M n limit = record { turns = turns_of M n; refusal = refusal_of M n; tally = record { left = limit; held = held_in M } }
+begun_of M n limit = record { turns = judged M n; tally = record { left = limit; held = held_in M } }
 
--- how it ends: the number of jobs run, or the refusal in the high half, and the nodes added
+-- how it ends: the number n of jobs run, or the refusal in the high half, and the nodes added
+abbrev pub in_halves : Result ℕ Refusal → ℕ → ℕ
+in_halves (Ok m) n = n
+in_halves (Err r) n = refusal_number r * 2 ^ 32
+
 abbrev pub concluded : Begun → Tally → AddedReply
-concluded b t = with_added (pick (eqb b.refusal 0) (b.tally.left - t.left) (b.refusal * 2 ^ 32)) (less t.held b.tally.held)
+concluded b t = with_added (in_halves b.turns (b.tally.left - t.left)) (less t.held b.tally.held)

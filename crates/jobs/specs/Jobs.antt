@@ -1,12 +1,12 @@
 -- LISTS OF JOBS: 02, M-106. One definition over any state and any way to make a call, for memories and for the plain store.
-use Rattle.std.specs.Prelude.{Bool, List, [], ◌∷◌, ◌++◌, ℕ, ◌-◌, eqb, leb, length, get_or}
+use Rattle.std.specs.Prelude.{Bool, List, [], ◌∷◌, ◌++◌, ℕ, ◌-◌, eqb, leb, length, get_or, Option, Some, None, Result, Ok, Err}
 use Rattle.model.specs.Store.{pick}
 use Rattle.store_check.specs.Memory.{Memories}
 use Rattle.store_check.specs.Valid.{is_store}
 use Rattle.call_rules.specs.Answers.{refusal_number, values}
 use Rattle.call_rules.specs.Outcome.{Outcome, outcome}
 use Rattle.call_rules.specs.declared.Answer.{Answer}
-use Rattle.call_rules.specs.declared.Answer.TheVariants.{Handle, Truth, SetNode, RelationNode, Declined, Pair, Nothing, Member}
+use Rattle.call_rules.specs.declared.Answer.TheVariants.{Handle, Truth, SetNode, RelationNode, Pair, Nothing, Member}
 use Rattle.call_rules.specs.declared.Refusal.{Refusal}
 use Rattle.call_rules.specs.declared.Refusal.TheVariants.{NotStore, OutOfRange}
 use Rattle.store.specs.Calls.{Call, new_store, set_call, set_read, relation_call, relation_read, image_call, filter_call, path_read, step}
@@ -15,8 +15,6 @@ use Rattle.jobs.specs.declared.Job.{Job}
 use Rattle.jobs.specs.declared.Operand.{Operand}
 use Rattle.jobs.specs.declared.operations.Slot.{Slot}
 use Rattle.jobs.specs.declared.operations.Slot.TheVariants.{Spare, Set, Relation, Number}
-use Rattle.jobs.specs.declared.turns.Value.{Value}
-use Rattle.jobs.specs.declared.turns.Value.TheVariants.{Is, Missing}
 
 -- THE ANSWER in a record: its kind, and its value
 abbrev pub not_run : ℕ
@@ -49,25 +47,25 @@ handle_kind (filter_call c) = relation_handle
 handle_kind (path_read c) = set_handle
 
 -- no operation answers with a node, a pair or a member
-abbrev pub answer_kind : Call → Answer → ℕ
-answer_kind c (Handle h) = handle_kind c
-answer_kind c (Truth b) = yes_or_no
-answer_kind c (SetNode x0 x1) = yes_or_no
-answer_kind c (RelationNode x00 x01 x10 x11) = yes_or_no
-answer_kind c (Declined r) = refused
-answer_kind c (Pair x y) = yes_or_no
-answer_kind c Nothing = yes_or_no
-answer_kind c (Member x) = yes_or_no
+abbrev pub answer_kind : Call → Result Answer Refusal → ℕ
+answer_kind c (Ok (Handle h)) = handle_kind c
+answer_kind c (Ok (Truth b)) = yes_or_no
+answer_kind c (Ok (SetNode x0 x1)) = yes_or_no
+answer_kind c (Ok (RelationNode x00 x01 x10 x11)) = yes_or_no
+answer_kind c (Ok (Pair x y)) = yes_or_no
+answer_kind c (Ok Nothing) = yes_or_no
+answer_kind c (Ok (Member x)) = yes_or_no
+answer_kind c (Err r) = refused
 
-abbrev pub answer_value : Answer → ℕ
-answer_value (Handle h) = h
-answer_value (Truth b) = get_or (values (Truth b)) 0 0
-answer_value (SetNode x0 x1) = 0
-answer_value (RelationNode x00 x01 x10 x11) = 0
-answer_value (Declined r) = refusal_number r
-answer_value (Pair x y) = 0
-answer_value Nothing = 0
-answer_value (Member x) = 0
+abbrev pub answer_value : Result Answer Refusal → ℕ
+answer_value (Ok (Handle h)) = h
+answer_value (Ok (Truth b)) = get_or (values (Ok (Truth b))) 0 0
+answer_value (Ok (SetNode x0 x1)) = 0
+answer_value (Ok (RelationNode x00 x01 x10 x11)) = 0
+answer_value (Ok (Pair x y)) = 0
+answer_value (Ok Nothing) = 0
+answer_value (Ok (Member x)) = 0
+answer_value (Err r) = refusal_number r
 
 abbrev pub with_answer : Job → ℕ → ℕ → Job
 with_answer j k v = record { operation = j.operation; a = j.a; b = j.b; c = j.c; kind = k; value = v }
@@ -77,18 +75,18 @@ abbrev pub named : List Job → Job → Operand → Job
 named done j o = get_or done o.number j
 
 -- "the answer of an earlier job", where that is a handle of the kind that is needed; no answer is a field, a packet or a value
-abbrev pub answer_in : Slot → Job → Value
-answer_in Spare j = Missing
-answer_in Set j = pick (eqb j.kind set_handle) (Is j.value) Missing
-answer_in Relation j = pick (eqb j.kind relation_handle) (Is j.value) Missing
-answer_in Number j = Missing
+abbrev pub answer_in : Slot → Job → Option ℕ
+answer_in Spare j = None
+answer_in Set j = pick (eqb j.kind set_handle) (Some j.value) None
+answer_in Relation j = pick (eqb j.kind relation_handle) (Some j.value) None
+answer_in Number j = None
 
-abbrev pub number_or_answer : Slot → Operand → Job → Value
-number_or_answer s o j = pick (eqb o.job 0) (Is o.number) (answer_in s j)
+abbrev pub number_or_answer : Slot → Operand → Job → Option ℕ
+number_or_answer s o j = pick (eqb o.job 0) (Some o.number) (answer_in s j)
 
 -- what an operand stands for, j being the record that it names: "Spare operands are ignored"
-abbrev pub stands_for : Slot → Operand → Job → Value
-stands_for Spare o j = Is 0
+abbrev pub stands_for : Slot → Operand → Job → Option ℕ
+stands_for Spare o j = Some 0
 stands_for Set o j = number_or_answer Set o j
 stands_for Relation o j = number_or_answer Relation o j
 stands_for Number o j = number_or_answer Number o j
@@ -100,11 +98,11 @@ pub data Asks : Type 0 where
 
 -- "11, job names itself, a later job, one past the list's end, one whose answer is no handle of the kind needed, or any job for a field,
 -- packet or value"
-abbrev pub with_values : Operation → Value → Value → Value → Asks
-with_values o (Is x) (Is y) (Is z) = calls (o.call x y z)
-with_values o (Is x) (Is y) Missing = refuses 11
-with_values o (Is x) Missing w = refuses 11
-with_values o Missing v w = refuses 11
+abbrev pub with_values : Operation → Option ℕ → Option ℕ → Option ℕ → Asks
+with_values o (Some x) (Some y) (Some z) = calls (o.call x y z)
+with_values o (Some x) (Some y) None = refuses 11
+with_values o (Some x) None w = refuses 11
+with_values o None v w = refuses 11
 
 -- "12 is found before 11, and both before the operation's own"; a, b and c are the records that its operands name
 unfoldable pub asks : Job → Job → Job → Job → Asks
@@ -114,7 +112,7 @@ asks j a b c = (let o = numbered j.operation in
     (refuses 12))
 
 -- "A refused job keeps its refusal as its answer"
-abbrev pub carried_out : {X : Type 0} → (Call → X → Outcome Answer X) → Job → Asks → X → Outcome Job X
+abbrev pub carried_out : {X : Type 0} → (Call → X → Outcome (Result Answer Refusal) X) → Job → Asks → X → Outcome Job X
 carried_out act j (calls d) x = outcome (with_answer j (answer_kind d (act d x).answer) (answer_value (act d x).answer)) (act d x).state
 carried_out act j (refuses r) x = outcome (with_answer j refused r) x
 
@@ -131,7 +129,7 @@ abbrev pub ran : {X : Type 0} → ℕ → Outcome Job X → Turn X
 ran n t = turn t.answer (n - 1) t.state
 
 -- "runs, in list order, the jobs not yet run up to the number given", of which n are left
-unfoldable pub take_turn : {X : Type 0} → (Call → X → Outcome Answer X) → ℕ → Job → Job → Job → Job → X → Turn X
+unfoldable pub take_turn : {X : Type 0} → (Call → X → Outcome (Result Answer Refusal) X) → ℕ → Job → Job → Job → Job → X → Turn X
 take_turn act n j a b c x = pick (eqb n 0) (turn j n x) (pick (is_waiting j) (ran n (carried_out act j (asks j a b c) x)) (turn j n x))
 
 -- THE LIST after some turns: its jobs, how many more may be run, and the state
@@ -140,7 +138,7 @@ pub record Progress (X : Type 0) : Type 0 where
   pub left : ℕ
   pub state : X
 
-module _ {X : Type 0} (act : Call → X → Outcome Answer X) where
+module _ {X : Type 0} (act : Call → X → Outcome (Result Answer Refusal) X) where
   -- the turn of j, after the jobs that are done
   abbrev pub turn_after : ℕ → List Job → Job → X → Turn X
   turn_after n done j x = take_turn act n j (named done j j.a) (named done j j.b) (named done j j.c) x
@@ -166,7 +164,7 @@ abbrev pub most_jobs : ℕ
 most_jobs = 256
 
 -- the jobs js on the state x, n of them at most: "5 for a list over 256, and no job changes"
-unfoldable pub jobs_on : {X : Type 0} → (Call → X → Outcome Answer X) → List Job → ℕ → X → Outcome JobsAnswer X
+unfoldable pub jobs_on : {X : Type 0} → (Call → X → Outcome (Result Answer Refusal) X) → List Job → ℕ → X → Outcome JobsAnswer X
 jobs_on act js n x = (let w = run_jobs act n [] js x in
     pick (leb (length js) most_jobs) (outcome (jobs_answer (ran_jobs (n - w.left)) w.jobs) w.state) (outcome (jobs_answer (declined OutOfRange) js) x))
 

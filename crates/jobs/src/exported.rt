@@ -3,6 +3,9 @@ ghost use Rattle.store_check.specs.Memory.{memories};
 ghost use Rattle.jobs.specs.Packed.{RunsJobs};
 
 use crate::Job;
+use crate::begins::{begin, conclude};
+use crate::turns::{find_places, run_one};
+use packing::AddedReply;
 
 // Runs the jobs that are not run yet, in their order, `limit` of them at most. All else is in the functions that take a job by value; a call that is
 // declined has no turns.
@@ -12,23 +15,21 @@ pub fn packet_store_run_jobs(
     work: &mut [u32],
     jobs: &mut [Job],
     limit: u32,
-) -> packing::AddedReply
+) -> AddedReply
     ensures { RunsJobs jobs.old limit (memories relations.old sets.old)
         (memories relations.new sets.new) work.old work.new result jobs.new }
 {
-    let begun = crate::begins::begin(relations, sets, work, jobs.len(), limit);
+    let begun = begin(relations, sets, work, jobs.len(), limit);
     let mut tally = begun.tally;
-    let mut i = 0;
-    while i < begun.turns {
+    for i in 0..begun.turns.unwrap_or(0) {
         let job = jobs[i];
-        let at = crate::turns::find_places(job, i);
+        let at = find_places(job, i);
         let a = jobs[at.a];
         let b = jobs[at.b];
         let c = jobs[at.c];
-        let done = crate::turns::run_one(relations, sets, work, job, a, b, c, tally);
+        let done = run_one(relations, sets, work, job, a, b, c, tally);
         jobs[i] = done.job;
         tally = done.tally;
-        i = i + 1;
     }
-    crate::begins::conclude(begun, tally)
+    conclude(begun, tally)
 }

@@ -5,26 +5,50 @@ ghost use Rattle.store.specs.Calls.{step};
 ghost use Rattle.call_rules.specs.Promise.{Meets};
 ghost use Rattle.jobs.specs.Operations.{as_call};
 ghost use Rattle.jobs.specs.Jobs.{answer_in, stands_for, handle_kind, with_answer, answer_kind, answer_value, asks};
-ghost use Rattle.jobs.specs.ByValue.{place_of, places_of, as_asks, CarriesOut, TakesTurn};
+ghost use Rattle.jobs.specs.ByValue.{place_of, places_of, kind_number, job_refusal_number, as_asks, CarriesOut, TakesTurn};
 
-use crate::operations::{Slot, StoreCall};
+use crate::operations::{LAST, Slot, StoreCall, call, operands};
 use crate::{Job, Operand};
+use call_rules::added::{NodeCounts, held};
+use call_rules::{Answer, Refusal};
+use store::filter_calls::filter_call;
+use store::image_calls::image_call;
+use store::path_reads::path_read;
+use store::relation_calls::relation_call;
+use store::relation_reads::relation_read;
+use store::set_calls::set_call;
+use store::set_reads::set_read;
 
-// What an operand stands for.
-#[derive(Clone, Copy)]
-pub enum Value {
-    Is(u32),
-    Missing,
+// Of what kind the answer in a record is, by the number that stands for it there.
+#[derive(Clone, Copy, Debug, PartialEq, Eq)]
+pub enum Kind {
+    NotRun = 0,
+    SetHandle = 1,
+    RelationHandle = 2,
+    YesOrNo = 3,
+    Refused = 4,
 }
 
-// What a job asks for: a call, or to be refused with a number.
-#[derive(Clone, Copy)]
-pub enum Asked {
-    Call(StoreCall),
-    Refusal(u32),
+// Why a job asks for no call.
+#[derive(Clone, Copy, Debug, PartialEq, Eq)]
+pub enum JobRefusal {
+    NoSuchAnswer,
+    UnknownOperation,
 }
 
-// The places in the list of the jobs that a job's operands name.
+impl From<JobRefusal> for u32 {
+    ghost from_gives = { λ r n. n ≡ job_refusal_number r };
+
+    fn from(refusal: JobRefusal) -> u32 {
+        match refusal {
+            JobRefusal::NoSuchAnswer => 11,
+            JobRefusal::UnknownOperation => 12,
+        }
+    }
+}
+
+// The places in the list of the jobs that a job's operands name. Not one generic struct with `Slots`: each is made in one function and read in one, and
+// a common name would say less.
 #[derive(Clone, Copy)]
 pub struct Places {
     pub a: usize,
@@ -36,7 +60,7 @@ pub struct Places {
 #[derive(Clone, Copy)]
 pub struct Tally {
     pub left: u32,
-    pub held: call_rules::added::NodeCounts,
+    pub held: NodeCounts,
 }
 
 // A job after its turn.
@@ -46,12 +70,11 @@ pub struct Turned {
     pub tally: Tally,
 }
 
-// The place of the earlier job that an operand of job i names; i, where it names none that is earlier.
+// The place of the earlier job that an operand of job i names; i, where it names none that is earlier: any record may be read there, and its answer is none.
 fn place_of(number: u32, i: usize) -> usize
     ensures { result ≡ place_of number i }
 {
-    let n = memory::as_index(number);
-    if n < i { n } else { i }
+    (number as usize).min(i)
 }
 
 pub fn find_places(job: Job, i: usize) -> Places
@@ -65,50 +88,39 @@ pub fn find_places(job: Job, i: usize) -> Places
 }
 
 // The handle in a record's answer, where it is of the kind that an operand needs.
-fn answer_in(slot: Slot, named: Job) -> Value
+fn answer_in(slot: Slot, named: Job) -> Option<u32>
     ensures { result ≡ answer_in slot named }
 {
-    match slot {
-        Slot::Spare => Value::Missing,
-        Slot::Set => if named.kind == 1 {
-            Value::Is(named.value)
-        } else {
-            Value::Missing
-        },
-        Slot::Relation => if named.kind == 2 {
-            Value::Is(named.value)
-        } else {
-            Value::Missing
-        },
-        Slot::Number => Value::Missing,
-    }
+    let needed = match slot {
+        Slot::Set => Kind::SetHandle,
+        Slot::Relation => Kind::RelationHandle,
+        Slot::Spare | Slot::Number => return None,
+    };
+    (named.kind == needed as u32).then_some(named.value)
 }
 
 // What an operand stands for, where `named` is the record that it names.
-fn stands_for(slot: Slot, operand: Operand, named: Job) -> Value
+fn stands_for(slot: Slot, operand: Operand, named: Job) -> Option<u32>
     ensures { result ≡ stands_for slot operand named }
 {
-    if let Slot::Spare = slot {
-        return Value::Is(0);
+    match slot {
+        Slot::Spare => Some(0),
+        _ if operand.job == 0 => Some(operand.number),
+        _ => answer_in(slot, named),
     }
-    if operand.job == 0 {
-        return Value::Is(operand.number);
-    }
-    answer_in(slot, named)
 }
 
-// The kind of a handle that a call gives: 1 of a set, 2 of a relation.
-fn handle_kind(call: StoreCall) -> u32
-    ensures { result ≡ handle_kind (as_call call) }
+// The kind of a handle that a call gives.
+fn handle_kind(call: StoreCall) -> Kind
+    ensures { kind_number result ≡ handle_kind (as_call call) }
 {
     match call {
-        StoreCall::AddsSet(_) => 1,
-        StoreCall::ReadsSet(_) => 1,
-        StoreCall::AddsRelation(_) => 2,
-        StoreCall::ReadsRelation(_) => 2,
-        StoreCall::AddsImage(_) => 1,
-        StoreCall::AddsFilter(_) => 2,
-        StoreCall::ReadsPath(_) => 1,
+        StoreCall::AddsSet(_)
+        | StoreCall::ReadsSet(_)
+        | StoreCall::AddsImage(_)
+        | StoreCall::ReadsPath(_) => Kind::SetHandle,
+        StoreCall::AddsRelation(_) | StoreCall::ReadsRelation(_) | StoreCall::AddsFilter(_) =>
+            Kind::RelationHandle,
     }
 }
 
@@ -118,88 +130,57 @@ pub fn make_call(
     sets: &mut [u32],
     work: &mut [u32],
     call: StoreCall,
-) -> call_rules::Answer
+) -> Result<Answer, Refusal>
     ensures { Meets (step (as_call call) (memories relations.old sets.old))
         (memories relations.new sets.new) work.old work.new result }
 {
     match call {
-        StoreCall::AddsSet(c) => store::set_calls::set_call(relations, sets, work, c).answer,
-        StoreCall::ReadsSet(c) => store::set_reads::set_read(relations, sets, work, c),
-        StoreCall::AddsRelation(c) => store::relation_calls::relation_call(
-            relations, sets, work, c,
-        ).answer,
-        StoreCall::ReadsRelation(c) => store::relation_reads::relation_read(
-            relations, sets, work, c,
-        ),
-        StoreCall::AddsImage(c) => store::image_calls::image_call(relations, sets, work, c).answer,
-        StoreCall::AddsFilter(c) => store::filter_calls::filter_call(
-            relations, sets, work, c,
-        ).answer,
-        StoreCall::ReadsPath(c) => store::path_reads::path_read(relations, sets, work, c),
+        StoreCall::AddsSet(c) => set_call(relations, sets, work, c).answer,
+        StoreCall::ReadsSet(c) => set_read(relations, sets, work, c),
+        StoreCall::AddsRelation(c) => relation_call(relations, sets, work, c).answer,
+        StoreCall::ReadsRelation(c) => relation_read(relations, sets, work, c),
+        StoreCall::AddsImage(c) => image_call(relations, sets, work, c).answer,
+        StoreCall::AddsFilter(c) => filter_call(relations, sets, work, c).answer,
+        StoreCall::ReadsPath(c) => path_read(relations, sets, work, c),
     }
 }
 
-fn with_answer(job: Job, kind: u32, value: u32) -> Job
-    ensures { result ≡ with_answer job kind value }
+fn with_answer(job: Job, kind: Kind, value: u32) -> Job
+    ensures { result ≡ with_answer job (kind_number kind) value }
 {
-    let a = job.a;
-    let b = job.b;
-    let c = job.c;
     Job {
-        operation: job.operation,
-        a: a,
-        b: b,
-        c: c,
-        kind: kind,
-        value: value,
+        kind: kind as u32,
+        value,
+        ..job
     }
 }
 
-// The job with the answer of its call.
-fn answered(job: Job, call: StoreCall, answer: call_rules::Answer) -> Job
+// The job with the answer of its call. No operation answers with a node, a pair or a member.
+fn answered(job: Job, call: StoreCall, answer: Result<Answer, Refusal>) -> Job
     ensures { result ≡ with_answer job (answer_kind (as_call call) answer) (answer_value answer) }
 {
     match answer {
-        call_rules::Answer::Handle(h) => with_answer(job, handle_kind(call), h),
-        call_rules::Answer::Truth(b) => with_answer(job, 3, if b { 1 } else { 0 }),
-        call_rules::Answer::SetNode(_, _) => with_answer(job, 3, 0),
-        call_rules::Answer::RelationNode(_, _, _, _) => with_answer(job, 3, 0),
-        call_rules::Answer::Declined(r) => with_answer(job, 4, call_rules::number_of(r)),
-        call_rules::Answer::Pair(_, _) => with_answer(job, 3, 0),
-        call_rules::Answer::Nothing => with_answer(job, 3, 0),
-        call_rules::Answer::Member(_) => with_answer(job, 3, 0),
+        Ok(Answer::Handle(h)) => with_answer(job, handle_kind(call), h),
+        Ok(Answer::Truth(b)) => with_answer(job, Kind::YesOrNo, u32::from(b)),
+        Ok(_) => with_answer(job, Kind::YesOrNo, 0),
+        Err(refusal) => with_answer(job, Kind::Refused, u32::from(refusal)),
     }
 }
 
-// What a job asks for, where a, b and c are the records that its operands name: 12, then 11, then a call.
+// What a job asks for, where a, b and c are the records that its operands name: it is refused with 12, then with 11.
 #[tactic(auto, using(crate::proofs::Unknown::of_zero, crate::proofs::Unknown::past_last))]
-fn ask(job: Job, a: Job, b: Job, c: Job) -> Asked
+fn ask(job: Job, a: Job, b: Job, c: Job) -> Result<StoreCall, JobRefusal>
     ensures { as_asks result ≡ asks job a b c }
 {
     let n = job.operation;
-    if n == 0 {
-        return Asked::Refusal(12);
+    if n == 0 || n > LAST {
+        return Err(JobRefusal::UnknownOperation);
     }
-    if 38 < n {
-        return Asked::Refusal(12);
-    }
-    let slots = crate::operations::operands(n);
-    let first = slots.a;
-    let second = slots.b;
-    let third = slots.c;
-    let x = stands_for(first, job.a, a);
-    let y = stands_for(second, job.b, b);
-    let z = stands_for(third, job.c, c);
-    let Value::Is(x) = x else {
-        return Asked::Refusal(11);
-    };
-    let Value::Is(y) = y else {
-        return Asked::Refusal(11);
-    };
-    let Value::Is(z) = z else {
-        return Asked::Refusal(11);
-    };
-    Asked::Call(crate::operations::call(n, x, y, z))
+    let slots = operands(n);
+    let x = stands_for(slots.a, job.a, a).ok_or(JobRefusal::NoSuchAnswer)?;
+    let y = stands_for(slots.b, job.b, b).ok_or(JobRefusal::NoSuchAnswer)?;
+    let z = stands_for(slots.c, job.c, c).ok_or(JobRefusal::NoSuchAnswer)?;
+    Ok(call(n, x, y, z))
 }
 
 // A job that asks for this is run.
@@ -208,17 +189,14 @@ fn carry_out(
     sets: &mut [u32],
     work: &mut [u32],
     job: Job,
-    asked: Asked,
+    asked: Result<StoreCall, JobRefusal>,
 ) -> Job
     ensures { CarriesOut job (as_asks asked) (memories relations.old sets.old)
         (memories relations.new sets.new) work.old work.new result }
 {
     match asked {
-        Asked::Refusal(n) => with_answer(job, 4, n),
-        Asked::Call(call) => {
-            let answer = make_call(relations, sets, work, call);
-            answered(job, call, answer)
-        }
+        Ok(call) => answered(job, call, make_call(relations, sets, work, call)),
+        Err(reason) => with_answer(job, Kind::Refused, u32::from(reason)),
     }
 }
 
@@ -238,17 +216,15 @@ pub fn run_one(
 {
     let mut after = job;
     let mut left = tally.left;
-    if left > 0 {
-        if job.kind == 0 {
-            after = carry_out(relations, sets, work, job, ask(job, a, b, c));
-            left = left - 1;
-        }
+    if left > 0 && job.kind == Kind::NotRun as u32 {
+        after = carry_out(relations, sets, work, job, ask(job, a, b, c));
+        left -= 1;
     }
     Turned {
         job: after,
         tally: Tally {
-            left: left,
-            held: call_rules::added::held(relations, sets),
+            left,
+            held: held(relations, sets),
         },
     }
 }

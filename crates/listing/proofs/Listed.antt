@@ -1,26 +1,26 @@
 -- One policy's line more, and the whole listing, from what each function writes.
-use mathlib.Core.Path.{◌≡◌, sym, ap, ◌∙◌}
+use mathlib.Core.Path.{◌≡◌, refl, sym, ap, ◌∙◌}
 use mathlib.Core.List.{List, [], ◌∷◌, ◌++◌, append_assoc}
 use Prim.Native.Nat.{ℕ, suc, ◌+◌, ◌*◌, ◌<◌, ◌≤◌}
 use native.Mathlib.Omega.{arith}
-use lib.ListN.{length, take, drop, replicate, drop_of_length-le, length-take}
+use Rattle.std.specs.List.{IsFirstMatchOrLen}
+use Rattle.std.specs.Prelude.{min, Option, Some}
+use lib.ListN.{length, take, drop, replicate, length-take}
 use lib.Seq.{take_all, take-nil, length-take-le}
-use lib.Dec.{leb}
+use lib.Dec.{eqb, leb}
 use borrow.Author.Tests.{leb-true, leb-false, le-leb, lt-leb}
 use Rattle.model.specs.Store.{set, rel, arity, pick}
 use Rattle.model.proofs.Bools.{by_test}
 use Rattle.store_check.specs.Memory.{Memories, memories, head}
 use Rattle.policies.specs.Outcome.{policy_step}
-use Rattle.policies.specs.declared.PolicyAnswer.{PolicyAnswer}
 use Rattle.call_rules.specs.OnMemories.{new_step}
 use Rattle.call_rules.specs.Outcome.{Outcome, outcome}
 use Rattle.call_rules.specs.declared.Answer.{Answer}
+use Rattle.call_rules.specs.declared.Refusal.{Refusal}
+use Rattle.std.specs.Prelude.{Result}
 use Rattle.listing.specs.Lines.{lines}
 use Rattle.listing.specs.Listing.{answer_line, first_line, last_line, policy_lines, zeroed, listed, of_lines, width_of, too_long, listing}
 use Rattle.listing.specs.Writing.{AddsFew, PolicyLine, PolicyLines}
-use Rattle.listing.specs.declared.fields.Width.{Width}
-use Rattle.listing.specs.declared.fields.Width.TheVariants.{Is}
-use Rattle.listing.proofs.Adding.{few_as}
 use Rattle.listing.proofs.Splitting.{first_length, some_line, next_line}
 
 -- what is written and what is left to write
@@ -35,22 +35,23 @@ one_more {t} {i} {M} {M'} {at} {r} {o} {o'} ts p =
     sym (append_assoc (take at o) (answer_line i (policy_step t M).answer) tail)
     ∙ (ap (λ (l : List ℕ). l ++ tail) (sym p.adds.adds.text) ∙ ap (λ (N : Memories). take r o' ++ policy_lines (i + 1) ts N) (sym p.state))
 
--- the line at a place of the input
-pub line_more : {i : ℕ} {M M' : Memories} {at r : ℕ} {o o' : List ℕ} (x : List ℕ) (from n : ℕ) → from < length x
-    → n ≡ first_length (drop from x) → PolicyLine (take n (drop from x)) i M M' at o o' r
-    → rest at o i (lines (drop from x)) M ≡ rest r o' (i + 1) (lines (drop (from + (n + 1)) x)) M'
-line_more {i} {M} {M'} {at} {r} {o} {o'} x from n within e p =
-    ap (λ (ls : List (List ℕ)). take at o ++ policy_lines i ls M) (next_line x from n within e) ∙ one_more (lines (drop (from + (n + 1)) x)) p
+-- the next line of the policies that are left: the piece x has it, and r is what is left after that
+pub line_more : {n i k : ℕ} {t : List ℕ} (x r : List ℕ) {M M' : Memories} {at at' : ℕ} {o o' : List ℕ} → t ≡ x ++ r
+    → length x ≡ min (k + 1) (length t) → IsFirstMatchOrLen (λ b. eqb b 10) t k → 0 < length t → n ≡ first_length x
+    → PolicyLine (take n x) i M M' at o o' at' → rest at o i (lines t) M ≡ rest at' o' (i + 1) (lines r) M'
+line_more {i = i} x r {M = M} {at = at} {o = o} cut long first some is p =
+    ap (λ (ls : List (List ℕ)). take at o ++ policy_lines i ls M) (next_line x r cut long first some is) ∙ one_more (lines r) p
 
 -- no line is left
-pub no_more : (i : ℕ) (M : Memories) (at : ℕ) (o x : List ℕ) (from : ℕ) → length x ≤ from → rest at o i (lines (drop from x)) M ≡ take at o ++ last_line M
+pub no_more : (i : ℕ) (M : Memories) (at : ℕ) (o t : List ℕ) → length t ≡ 0 → rest at o i (lines t) M ≡ take at o ++ last_line M
 unfolding policy_lines lines
-no_more i M at o x from past = ap (λ (l : List ℕ). take at o ++ policy_lines i (lines l) M) (drop_of_length-le x past)
+no_more i M at o [] none = refl
+no_more i M at o (b ∷ t) none = absurd (omega arith)
 
 -- THE WHOLE, where k is right
 pub whole : (k n r s : ℕ) (ts : List (List ℕ)) (M M' : Memories) (a b e : ℕ) (o o' o'' o''' : List ℕ)
     → r ≡ head rel + arity rel * 2048 → s ≡ head set + arity set * 2048 → M ≡ (new_step k (zeroed r s)).state → AddsFew 64 0 (first_line k) o o' a
-    → PolicyLines n ts M M' a o' o'' b → AddsFew 64 b (last_line M') o'' o''' e → take e o''' ≡ listed (Is k) ts
+    → PolicyLines n ts M M' a o' o'' b → AddsFew 64 b (last_line M') o'' o''' e → take e o''' ≡ listed (Some k) ts
 unfolding listed
 whole k n r s ts M M' a b e o o' o'' o''' er es begun first all last =
     last.adds.text
@@ -68,11 +69,11 @@ first_read (b ∷ t) to e =
     ap of_lines (some_line (b ∷ t) to (omega arith) e) ∙ ap (λ (j : ℕ). listed (width_of (take to (b ∷ t))) (lines (drop j (b ∷ t)))) past
 
 -- THE LISTING, of an input that is not too long
-pub listing_of : (x : List ℕ) (to : ℕ) (v : Width) → length x ≤ 16384 → to ≡ first_length x → v ≡ width_of (take to x)
+pub listing_of : (x : List ℕ) (to : ℕ) (v : Option ℕ) → length x ≤ 16384 → to ≡ first_length x → v ≡ width_of (take to x)
     → listed v (lines (drop (to + 1) x)) ≡ listing x
 unfolding listing
 listing_of x to v short e read = let ls = lines (drop (to + 1) x) in
-    ap (λ (u : Width). listed u ls) read
+    ap (λ (u : Option ℕ). listed u ls) read
     ∙ (sym (first_read x to e) ∙ ap (λ b. pick b (of_lines (lines x)) too_long) (sym (le-leb (length x) 16384 short)))
 
 pub listing_long : (x : List ℕ) → 16384 < length x → too_long ≡ listing x
@@ -100,15 +101,7 @@ pub of_text : (n : ℕ) (b t : List ℕ) → length b ≡ 16385 → take (length
 of_text n b t all e = ap listing (sym e) ∙ (ap (λ (m : ℕ). listing (take m t)) all ∙ listing_read t)
 
 -- a new store in cleared memories
-pub begun : (k : ℕ) (a : Answer) (r s r₀ s₀ r' s' : List ℕ) → r ≡ replicate (length r₀) 0 → s ≡ replicate (length s₀) 0
+pub begun : (k : ℕ) (a : Result Answer Refusal) (r s r₀ s₀ r' s' : List ℕ) → r ≡ replicate (length r₀) 0 → s ≡ replicate (length s₀) 0
     → outcome a (memories r' s') ≡ new_step k (memories r s) → memories r' s' ≡ (new_step k (zeroed (length r₀) (length s₀))).state
 unfolding zeroed
-begun k a r s r₀ s₀ r' s' er es e = ap (λ (t : Outcome Answer Memories). t.state) e ∙ λ i. (new_step k (memories (er i) (es i))).state
-
--- a policy's answer and the memories after it
-pub policy_added : {t : List ℕ} {i : ℕ} {M M' : Memories} {at r : ℕ} {o o' : List ℕ} {a : PolicyAnswer} → outcome a M' ≡ policy_step t M
-    → AddsFew 64 at (answer_line i a) o o' r → PolicyLine t i M M' at o o' r
-policy_added {t} {i} {M} {M'} {at} {r} {o} {o'} {a} e f = record {
-  adds = few_as (ap (λ (u : Outcome PolicyAnswer Memories). answer_line i u.answer) e) (omega arith) f;
-  state = ap (λ (u : Outcome PolicyAnswer Memories). u.state) e;
-}
+begun k a r s r₀ s₀ r' s' er es e = ap (λ (t : Outcome (Result Answer Refusal) Memories). t.state) e ∙ λ i. (new_step k (memories (er i) (es i))).state

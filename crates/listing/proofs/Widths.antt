@@ -1,59 +1,59 @@
 -- What the first line says, by its length and its digits. From the definitions.
-use mathlib.Core.Path.{◌≡◌, refl, sym, ap, subst, ◌∙◌}
+use mathlib.Core.Path.{◌≡◌, refl, sym, ap, subst}
 use mathlib.Core.Bool.{Bool, true, false, not, ◌&&◌}
 use mathlib.Core.List.{List, [], ◌∷◌}
-use Prim.Native.Nat.{ℕ, ◌+◌, ◌-◌, ◌*◌, ◌≤◌}
+use Prim.Native.Nat.{ℕ, ◌+◌, ◌-◌, ◌*◌, ◌<◌, ◌≤◌}
 use native.Mathlib.Omega.{arith}
 use lib.Dec.{T, leb, eqb, leb→le}
 use lib.ListN.{length, get_or}
+use borrow.Author.Tests.{le-leb, lt-leb, leb-true, eq-eqb, ne_eqb}
+use Rattle.std.specs.Prelude.{Option, None}
 use Rattle.model.specs.Store.{pick}
-use Rattle.model.proofs.Bools.{and_T}
+use Rattle.model.proofs.Bools.{by_test, no_true, and_T}
 use Rattle.policy_text.specs.XForms.{is_digit_byte}
 use Rattle.listing.specs.Listing.{at_most_32, one_digit, two_digits, width_of}
-use Rattle.listing.specs.declared.fields.Width.{Width}
-use Rattle.listing.specs.declared.fields.Width.TheVariants.{Bad}
 
--- a test that says so is a digit
-pub digit_from_48 : (a : ℕ) (b : Bool) → b ≡ is_digit_byte a → b ≡ true → 48 ≤ a
-digit_from_48 a b e t = leb→le 48 a (and_T (leb 48 a) (leb a 57) (subst T (sym t ∙ e) tt)).0
+-- DIGITS, and other bytes
+digit : (a : ℕ) → 48 ≤ a → a ≤ 57 → is_digit_byte a ≡ true
+digit a low high = λ i. le-leb 48 a low i && le-leb a 57 high i
 
-pub no_digit : (a : ℕ) (b : Bool) → b ≡ is_digit_byte a → b ≡ false → Bad ≡ one_digit a
+other : (a : ℕ) → (48 ≤ a → 57 < a) → is_digit_byte a ≡ false
+other a past = by_test (λ b. b && leb a 57 ≡ false) (leb 48 a) (λ e. lt-leb a 57 (past (leb-true 48 a e))) (λ e. refl)
+
+within_digits : (a : ℕ) → is_digit_byte a ≡ true → (48 ≤ a) × (a ≤ 57)
+within_digits a e = let t = and_T (leb 48 a) (leb a 57) (subst T (sym e) tt) in (leb→le 48 a t.0, leb→le a 57 t.1)
+
+pub a_digit : (a : ℕ) → 48 ≤ a → a ≤ 57 → at_most_32 (a - 48) ≡ one_digit a
 unfolding one_digit
-no_digit a b e f = ap (λ x. pick x (at_most_32 (a - 48)) Bad) (sym f ∙ e)
+a_digit a low high = ap (λ x. pick x (at_most_32 (a - 48)) None) (sym (digit a low high))
 
-pub a_digit : (a : ℕ) (b : Bool) → b ≡ is_digit_byte a → b ≡ true → at_most_32 (a - 48) ≡ one_digit a
+pub no_digit : (a : ℕ) → (48 ≤ a → 57 < a) → None ≡ one_digit a
 unfolding one_digit
-a_digit a b e t = ap (λ x. pick x (at_most_32 (a - 48)) Bad) (sym t ∙ e)
-
--- of three tests the second or the third fails
-second_fails : (x z : Bool) (w : Width) → Bad ≡ pick (x && (false && z)) w Bad
-second_fails true z w = refl
-second_fails false z w = refl
-
-third_fails : (x y : Bool) (w : Width) → Bad ≡ pick (x && (y && false)) w Bad
-third_fails true true w = refl
-third_fails true false w = refl
-third_fails false y w = refl
+no_digit a past = ap (λ x. pick x (at_most_32 (a - 48)) None) (sym (other a past))
 
 module _ (a b : ℕ) where
-  abbrev said : Width
+  abbrev said : Option ℕ
   said = at_most_32 (10 * (a - 48) + (b - 48))
 
-  pub zero_first : a ≡ 48 → Bad ≡ two_digits a b
+  pub both_digits : 49 ≤ a → a ≤ 57 → 48 ≤ b → b ≤ 57 → said ≡ two_digits a b
   unfolding two_digits
-  zero_first e = ap (λ (c : ℕ). pick (not (eqb c 48) && (is_digit_byte a && is_digit_byte b)) said Bad) (sym e)
+  both_digits low high low' high' =
+      sym (λ i. pick (not (ne_eqb a 48 (λ e. omega arith) i) && (digit a (omega arith) high i && digit b low' high' i)) said None)
 
-  pub no_first : (x : Bool) → x ≡ is_digit_byte a → x ≡ false → Bad ≡ two_digits a b
-  unfolding two_digits
-  no_first x e f = second_fails (not (eqb a 48)) (is_digit_byte b) said ∙ ap (λ y. pick (not (eqb a 48) && (y && is_digit_byte b)) said Bad) (sym f ∙ e)
+  not_all : (x y z : Bool) → (x ≡ true → y ≡ true → z ≡ true → ⊥) → None ≡ pick (x && (y && z)) said None
+  not_all true true true h = absurd (h refl refl refl)
+  not_all true true false h = refl
+  not_all true false z h = refl
+  not_all false y z h = refl
 
-  pub no_second : (x : Bool) → x ≡ is_digit_byte b → x ≡ false → Bad ≡ two_digits a b
+  pub not_both : (49 ≤ a → a ≤ 57 → 48 ≤ b → 57 < b) → None ≡ two_digits a b
   unfolding two_digits
-  no_second x e f = third_fails (not (eqb a 48)) (is_digit_byte a) said ∙ ap (λ y. pick (not (eqb a 48) && (is_digit_byte a && y)) said Bad) (sym f ∙ e)
-
-  pub both_digits : (x y : Bool) → eqb a 48 ≡ false → x ≡ is_digit_byte a → x ≡ true → y ≡ is_digit_byte b → y ≡ true → said ≡ two_digits a b
-  unfolding two_digits
-  both_digits x y e ex tx ey ty = sym (λ i. pick (not (e i) && ((sym ex ∙ tx) i && (sym ey ∙ ty) i)) said Bad)
+  not_both past = not_all (not (eqb a 48)) (is_digit_byte a) (is_digit_byte b) (λ x y z.
+      let tens = within_digits a y in
+      let ones = within_digits b z in
+      let no_zero : a ≡ 48 → ⊥ = λ e. no_true (ap not (eq-eqb a 48 e)) x in
+      let over : 57 < b = past (omega (arith, tens.0, no_zero)) tens.1 ones.0 in
+      omega (arith, over, ones.1))
 
 -- LINES of one byte, of two, and others
 pub of_one : (l : List ℕ) → length l ≡ 1 → one_digit (get_or l 0 0) ≡ width_of l
@@ -69,7 +69,7 @@ of_two (a ∷ []) e = absurd (omega arith)
 of_two (a ∷ b ∷ []) e = refl
 of_two (a ∷ b ∷ c ∷ l) e = absurd (omega arith)
 
-pub of_others : (l : List ℕ) → (length l ≡ 1 → ⊥) → (length l ≡ 2 → ⊥) → Bad ≡ width_of l
+pub of_others : (l : List ℕ) → (length l ≡ 1 → ⊥) → (length l ≡ 2 → ⊥) → None ≡ width_of l
 unfolding width_of
 of_others [] n m = refl
 of_others (a ∷ []) n m = absurd (n refl)

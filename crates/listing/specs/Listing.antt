@@ -1,33 +1,29 @@
 -- WHAT THE LISTER WRITES for the bytes that it reads: 01, "The lister reads standard input". Bytes are in ASCII, 10 the newline.
-use Rattle.std.specs.Prelude.{not, ◌&&◌, List, [], ◌∷◌, ◌++◌, ℕ, ◌+◌, ◌-◌, ◌*◌, leb, eqb, length, replicate}
+use Rattle.std.specs.Prelude.{not, ◌&&◌, List, [], ◌∷◌, ◌++◌, ℕ, ◌+◌, ◌-◌, ◌*◌, leb, eqb, length, replicate, Ok, Err, Option, Some, None}
 use Rattle.model.specs.Store.{set, rel, arity, pick}
 use Rattle.store_check.specs.Memory.{Memories, memories, head, count}
 use Rattle.call_rules.specs.OnMemories.{new_step}
 use Rattle.policy_text.specs.XForms.{is_digit_byte}
-use Rattle.policies.specs.Answers.{policy_number, policy_values}
+use Rattle.policies.specs.Answers.{PolicyAnswer, policy_number, policy_values}
 use Rattle.policies.specs.Outcome.{policy_step}
-use Rattle.policies.specs.declared.PolicyAnswer.{PolicyAnswer}
-use Rattle.policies.specs.declared.PolicyAnswer.TheVariants.{Handle, Declined}
 use Rattle.listing.specs.Decimal.{decimal}
 use Rattle.listing.specs.Lines.{lines}
-use Rattle.listing.specs.declared.fields.Width.{Width}
-use Rattle.listing.specs.declared.fields.Width.TheVariants.{Is, Bad}
 
 -- THE FIRST LINE: k, "written as N is and at most 32"; "N is one or two decimal digits without a leading zero"
-unfoldable pub at_most_32 : ℕ → Width
-at_most_32 n = pick (leb n 32) (Is n) Bad
+unfoldable pub at_most_32 : ℕ → Option ℕ
+at_most_32 n = pick (leb n 32) (Some n) None
 
-unfoldable pub one_digit : ℕ → Width
-one_digit a = pick (is_digit_byte a) (at_most_32 (a - 48)) Bad
+unfoldable pub one_digit : ℕ → Option ℕ
+one_digit a = pick (is_digit_byte a) (at_most_32 (a - 48)) None
 
-unfoldable pub two_digits : ℕ → ℕ → Width
-two_digits a b = pick (not (eqb a 48) && (is_digit_byte a && is_digit_byte b)) (at_most_32 (10 * (a - 48) + (b - 48))) Bad
+unfoldable pub two_digits : ℕ → ℕ → Option ℕ
+two_digits a b = pick (not (eqb a 48) && (is_digit_byte a && is_digit_byte b)) (at_most_32 (10 * (a - 48) + (b - 48))) None
 
-unfoldable pub width_of : List ℕ → Width
-width_of [] = Bad
+unfoldable pub width_of : List ℕ → Option ℕ
+width_of [] = None
 width_of (a ∷ []) = one_digit a
 width_of (a ∷ b ∷ []) = two_digits a b
-width_of (a ∷ b ∷ c ∷ l) = Bad
+width_of (a ∷ b ∷ c ∷ l) = None
 
 -- THE LINES WRITTEN. `k K`
 unfoldable pub first_line : ℕ → List ℕ
@@ -40,8 +36,8 @@ shown_offset (i ∷ is) = (32 ∷ []) ++ decimal i
 
 -- a space and `hH`, or `rR` and the offset
 unfoldable pub shown : PolicyAnswer → List ℕ
-shown (Handle h) = (32 ∷ 104 ∷ []) ++ decimal h
-shown (Declined r) = ((32 ∷ 114 ∷ []) ++ decimal (policy_number r)) ++ shown_offset (policy_values (Declined r))
+shown (Ok h) = (32 ∷ 104 ∷ []) ++ decimal h
+shown (Err r) = ((32 ∷ 114 ∷ []) ++ decimal (policy_number r)) ++ shown_offset (policy_values (Err r))
 
 -- the number of a policy and its answer
 unfoldable pub answer_line : ℕ → PolicyAnswer → List ℕ
@@ -67,13 +63,13 @@ abbrev pub bad_k : List ℕ
 bad_k = 98 ∷ 97 ∷ 100 ∷ 32 ∷ 107 ∷ 10 ∷ []
 
 -- `bad k` alone, or all lines
-unfoldable pub listed : Width → List (List ℕ) → List ℕ
-listed (Is k) ts = first_line k ++ policy_lines 1 ts (new_step k (zeroed (head rel + arity rel * 2048) (head set + arity set * 2048))).state
-listed Bad ts = bad_k
+unfoldable pub listed : Option ℕ → List (List ℕ) → List ℕ
+listed (Some k) ts = first_line k ++ policy_lines 1 ts (new_step k (zeroed (head rel + arity rel * 2048) (head set + arity set * 2048))).state
+listed None ts = bad_k
 
 -- a policy a line after the first; where there is none, `bad k`
 unfoldable pub of_lines : List (List ℕ) → List ℕ
-of_lines [] = listed Bad []
+of_lines [] = listed None []
 of_lines (l ∷ ts) = listed (width_of l) ts
 
 abbrev pub too_long : List ℕ

@@ -2,55 +2,37 @@
 ghost use Rattle.std.specs.Prelude.{◌≡◌};
 ghost use Rattle.listing.specs.Listing.{at_most_32, one_digit, two_digits, width_of};
 
-// k, or no number from 0 to 32.
-#[derive(Clone, Copy)]
-pub(crate) enum Width {
-    Is(u32),
-    Bad,
-}
-
-fn at_most_32(n: u32) -> Width
+fn at_most_32(n: u32) -> Option<u32>
     ensures { result ≡ at_most_32 n }
 {
-    if n > 32 {
-        return Width::Bad;
-    }
-    Width::Is(n)
+    (n <= 32).then_some(n)
 }
 
-fn one_digit(a: u8) -> Width
+fn one_digit(a: u8) -> Option<u32>
     ensures { result ≡ one_digit a }
 {
-    if !policy_text::is_digit(a) {
-        return Width::Bad;
+    match a {
+        b'0'..=b'9' => at_most_32((a - b'0') as u32),
+        _ => None,
     }
-    at_most_32((a - 48) as u32)
 }
 
-fn two_digits(a: u8, b: u8) -> Width
+fn two_digits(a: u8, b: u8) -> Option<u32>
     ensures { result ≡ two_digits a b }
 {
-    if a == 48 {
-        return Width::Bad;
+    match (a, b) {
+        (b'1'..=b'9', b'0'..=b'9') => at_most_32(10 * (a - b'0') as u32 + (b - b'0') as u32),
+        _ => None,
     }
-    if !policy_text::is_digit(a) {
-        return Width::Bad;
-    }
-    if !policy_text::is_digit(b) {
-        return Width::Bad;
-    }
-    at_most_32(10 * (a - 48) as u32 + (b - 48) as u32)
 }
 
-// What a line says.
-pub(crate) fn read(line: &[u8]) -> Width
+// The number from 0 to 32 that a line says.
+pub(crate) fn read(line: &[u8]) -> Option<u32>
     ensures { result ≡ width_of line.now }
 {
-    if line.len() == 1 {
-        return one_digit(line[0]);
+    match line {
+        [a] => one_digit(*a),
+        [a, b] => two_digits(*a, *b),
+        _ => None,
     }
-    if line.len() == 2 {
-        return two_digits(line[0], line[1]);
-    }
-    Width::Bad
 }

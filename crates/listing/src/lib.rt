@@ -6,7 +6,6 @@ ghost use Rattle.std.specs.Io.KnownBytes.{Appends};
 ghost use Rattle.io.specs.Counts.{IsPrefixLen};
 ghost use Rattle.listing.specs.Listing.{listing};
 
-use crate::fields::Width;
 use std::io::{Read, Write};
 use store_check::head::*;
 
@@ -49,16 +48,17 @@ pub fn list(
     ensures prefix_len { IsPrefixLen result out.new }
     ensures by_index { (t : List ℕ) → take (length input.now) t ≡ take n input.now → take result out.new ≡ listing t }
 {
-    let all: &[u8] = input;
     if n > MOST {
         return crate::writing::put(out, 0, b"too long\n");
     }
-    let text = &all[..n];
+    let text = &input[..n];
     let end = crate::lines::line_len(text);
-    let width = crate::fields::read(&text[..end]);
-    match width {
-        Width::Bad => crate::writing::put(out, 0, b"bad k\n"),
-        Width::Is(k) => crate::lines::write(text, end + 1, k, relations, sets, work, out),
+    match crate::fields::read(&text[..end]) {
+        None => crate::writing::put(out, 0, b"bad k\n"),
+        Some(k) => {
+            let policies = crate::lines::text_after(text, end);
+            crate::lines::write(policies, k, relations, sets, work, out)
+        }
     }
 }
 

@@ -1,5 +1,5 @@
 // The lines of the listing: k, an answer for each policy, and the counts of nodes.
-ghost use Rattle.std.specs.Prelude.{◌≡◌, ◌+◌, ◌-◌, ◌*◌, ◌<◌, ◌≤◌, ◌==◌, length, take, drop};
+ghost use Rattle.std.specs.Prelude.{◌≡◌, ◌+◌, ◌*◌, ◌≤◌, ◌==◌, length, take, drop, Some};
 ghost use Rattle.std.specs.List.{position_or_len};
 ghost use Rattle.model.specs.Store.{set, rel, arity};
 ghost use Rattle.store_check.specs.Memory.{memories, head};
@@ -7,7 +7,6 @@ ghost use Rattle.call_rules.specs.OnMemories.{new_step};
 ghost use Rattle.listing.specs.Lines.{lines};
 ghost use Rattle.listing.specs.Listing.{zeroed, listed};
 ghost use Rattle.listing.specs.Writing.{PolicyLine, PolicyLines};
-ghost use Rattle.listing.specs.declared.fields.Width.TheVariants.{Is};
 
 use store_check::head::*;
 
@@ -16,12 +15,15 @@ pub(crate) fn line_len(text: &[u8]) -> usize
     ensures upper_bound { result ≤ length text.now }
     ensures value { result ≡ position_or_len (λ b. b == 10) text.now }
 {
-    for (i, b) in text.iter().enumerate() {
-        if *b == b'\n' {
-            return i;
-        }
-    }
-    text.len()
+    text.iter().position(|b| *b == b'\n').unwrap_or(text.len())
+}
+
+// The text after a line that ends here.
+pub(crate) fn text_after(text: &[u8], end: usize) -> &[u8]
+    requires { end ≤ length text.now }
+    ensures { result.now ≡ drop (end + 1) text.now }
+{
+    text.get(end + 1..).unwrap_or(&[])
 }
 
 // A new store of k fields.
@@ -29,8 +31,8 @@ fn begin(relations: &mut [u32], sets: &mut [u32], work: &mut [u32], k: u32)
     ensures { memories relations.new sets.new
         ≡ (new_step k (zeroed (length relations.old) (length sets.old))).state }
 {
-    memory::clear(relations);
-    memory::clear(sets);
+    relations.fill(0);
+    sets.fill(0);
     new_store::new(relations, sets, work, k);
 }
 
@@ -52,51 +54,44 @@ fn policy_line(
     crate::writing::answer_line(out, at, i, a)
 }
 
-// The policies from a place of the input on, one a line.
+// The policies, one a line.
 fn policy_lines(
-    input: &[u8],
-    start: usize,
+    text: &[u8],
     relations: &mut [u32],
     sets: &[u32],
     work: &mut [u32],
     out: &mut [u8],
     begun: usize,
 ) -> usize
-    requires { (0 < start) × (begun + 64 * (length input.now - start) ≤ length out.old) }
-    ensures { PolicyLines (length input.now - start) (lines (drop start input.now))
+    requires { begun + 64 * length text.now ≤ length out.old }
+    ensures { PolicyLines (length text.now) (lines text.now)
         (memories relations.old sets.now) (memories relations.new sets.now)
         begun out.old out.new result }
 {
-    let mut from = start;
     let mut at = begun;
-    let mut i = 1;
-    while from < input.len() {
-        let rest = &input[from..];
-        let n = line_len(rest);
-        at = policy_line(relations, sets, work, &rest[..n], i, out, at);
-        i += 1;
-        from += n + 1;
+    for (i, line) in text.split_inclusive(|b| *b == b'\n').enumerate() {
+        let policy = &line[..line_len(line)];
+        at = policy_line(relations, sets, work, policy, i + 1, out, at);
     }
     at
 }
 
-// All lines: `start` is where the line after k's begins.
+// All lines, where the policies have this text.
 pub(crate) fn write(
-    input: &[u8],
-    start: usize,
+    text: &[u8],
     k: u32,
     relations: &mut [u32],
     sets: &mut [u32],
     work: &mut [u32],
     out: &mut [u8],
 ) -> usize
-    requires { (0 < start) × (128 + 64 * (length input.now - start) ≤ length out.old)
+    requires { (128 + 64 * length text.now ≤ length out.old)
         × (length relations.old ≡ head rel + arity rel * 2048) × (length sets.old ≡ head set + arity set * 2048) }
     ensures upper_bound { result ≤ length out.old }
-    ensures out_after { take result out.new ≡ listed (Is k) (lines (drop start input.now)) }
+    ensures out_after { take result out.new ≡ listed (Some k) (lines text.now) }
 {
     begin(relations, sets, work, k);
     let first = crate::writing::first_line(out, k);
-    let end = policy_lines(input, start, relations, sets, work, out, first);
+    let end = policy_lines(text, relations, sets, work, out, first);
     crate::writing::nodes_line(out, end, relations[RELATION_COUNT], sets[SET_COUNT])
 }

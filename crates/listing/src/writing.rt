@@ -1,11 +1,10 @@
-// Text written into a lent slice, each piece after the one before.
+// Text written into a lent slice, each piece after the one before. Not by `write!`: std says nothing of the bytes that it leaves in a lent slice.
 ghost use Rattle.std.specs.Prelude.{◌≡◌, ◌++◌, ◌+◌, ◌≤◌, length};
-ghost use Rattle.policies.specs.declared.PolicyAnswer.TheVariants.{Declined};
 ghost use Rattle.listing.specs.Decimal.{decimal};
 ghost use Rattle.listing.specs.Listing.{first_line, shown, answer_line, nodes_line};
 ghost use Rattle.listing.specs.Writing.{Adds, AddsFew};
 
-use policies::{PolicyAnswer, PolicyRefusal};
+use policies::PolicyRefusal;
 
 // Some bytes; their end.
 pub(crate) fn put(out: &mut [u8], at: usize, s: &[u8]) -> usize
@@ -37,37 +36,28 @@ pub(crate) fn first_line(out: &mut [u8], k: u32) -> usize
     put(out, end, b"\n")
 }
 
-// The refusal's number, and the offset where there is one.
-fn put_refusal(out: &mut [u8], at: usize, r: PolicyRefusal) -> usize
-    requires { at + 43 ≤ length out.old }
-    ensures { AddsFew 43 at (shown (Declined r)) out.old out.new result }
-{
-    match r {
-        PolicyRefusal::At(f, i) => {
-            let number = policies::fault_number(f);
-            let from = put_number(out, at, b" r", number as u64);
-            put_number(out, from, b" ", i as u64)
-        }
-        PolicyRefusal::Store(s) => {
-            let number = call_rules::number_of(s);
-            put_number(out, at, b" r", number as u64)
-        }
-    }
-}
-
-// The handle, or the refusal.
-fn put_answer(out: &mut [u8], at: usize, a: PolicyAnswer) -> usize
+// The handle; or the refusal's number, and the offset where there is one.
+fn put_answer(out: &mut [u8], at: usize, a: Result<u32, PolicyRefusal>) -> usize
     requires { at + 43 ≤ length out.old }
     ensures { AddsFew 43 at (shown a) out.old out.new result }
 {
     match a {
-        PolicyAnswer::Handle(h) => put_number(out, at, b" h", h as u64),
-        PolicyAnswer::Declined(r) => put_refusal(out, at, r),
+        Ok(h) => put_number(out, at, b" h", h as u64),
+        Err(PolicyRefusal::At(misread)) => {
+            let from = put_number(out, at, b" r", u32::from(misread.fault) as u64);
+            put_number(out, from, b" ", misread.at as u64)
+        }
+        Err(PolicyRefusal::Store(refusal)) => put_number(out, at, b" r", u32::from(refusal) as u64),
     }
 }
 
 // The line of policy i.
-pub(crate) fn answer_line(out: &mut [u8], at: usize, i: usize, a: PolicyAnswer) -> usize
+pub(crate) fn answer_line(
+    out: &mut [u8],
+    at: usize,
+    i: usize,
+    a: Result<u32, PolicyRefusal>,
+) -> usize
     requires { at + 64 ≤ length out.old }
     ensures { AddsFew 64 at (answer_line i a) out.old out.new result }
 {

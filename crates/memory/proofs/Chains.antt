@@ -1,5 +1,7 @@
 -- Laws of the index: what is last in a bucket, a search along a chain, and a node that joins.
-use mathlib.Core.Path.{◌≡◌, refl, sym, ap, ◌∙◌}
+use Rattle.std.specs.Prelude.{Option, Some, None, MatchOption}
+use Rattle.std.proofs.lemmas.Option.{none-some}
+use mathlib.Core.Path.{subst, ◌≡◌, refl, sym, ap, ◌∙◌}
 use mathlib.Core.Bool.{Bool, true}
 use mathlib.Core.List.{List}
 use Prim.Native.Nat.{ℕ, zero, suc, ◌+◌, ◌-◌, ◌*◌, ◌<◌, ◌≤◌, zero-le}
@@ -111,18 +113,23 @@ module _ (node : ℕ → List ℕ) (n : ℕ) (x : List ℕ) where
       step e' k l h (no b) (no d) t = a.none k (omega arith) h t
 
   -- the answers of a search
-  pub finds_at : (good : Bool) (i : ℕ) → i < n → node i ≡ x → Finds node n x good i
-  finds_at good i l e = record { low = omega arith; hit = λ h. e; none = λ g s. absurd (omega arith) }
+  pub finds_at : (good : Bool) (i : ℕ) → i < n → node i ≡ x → Finds node n x good (Some i)
+  finds_at good i l e = record {
+    hit = λ j q. let s : i ≡ j = cc in (subst (λ k. k < n) s l, ap node (sym s) ∙ e);
+    none = λ g q. absurd (none-some i (sym q));
+  }
 
-  pub finds_none : (good : Bool) → (good ≡ true → (k : ℕ) → k < n → node k ≡ x → ⊥) → Finds node n x good n
-  finds_none good h = record { low = le_refl _; hit = λ l. absurd (omega arith); none = λ g e. h g }
+  pub finds_none : (good : Bool) → (good ≡ true → (k : ℕ) → k < n → node k ≡ x → ⊥) → Finds node n x good None
+  finds_none good h = record { hit = λ i q. absurd (none-some i q); none = λ g e. h g }
 
-  -- what a search to be trusted finds, any search may answer
-  pub finds_any : (good : Bool) (r : ℕ) → Finds node n x true r → Finds node n x good r
-  finds_any good r f = record { low = f.low; hit = f.hit; none = λ g. f.none refl }
+  -- the first of all places
+  pub finds_first : (r : Option ℕ) → MatchOption r ((k : ℕ) → 0 ≤ k → k < n → node k ≡ x → ⊥)
+      (λ i. (0 ≤ i) × (i < n) × (node i ≡ x) × ((k : ℕ) → 0 ≤ k → k < i → node k ≡ x → ⊥)) → Finds node n x true r
+  finds_first (Some i) h = finds_at true i h.1 h.2
+  finds_first None h = finds_none true (λ g k. h k (omega arith))
 
   module _ (w : List ℕ) (at : ℕ) where
-    abbrev SearchIs : ℕ → Type 0
+    abbrev SearchIs : Option ℕ → Type 0
     SearchIs r = (good : Bool) → at ≡ memo_size (length w) → (good ≡ true → Indexed node w n) → Finds node n x good r
 
     -- from the head of the bucket, and along a link
@@ -142,20 +149,14 @@ module _ (node : ℕ → List ℕ) (n : ℕ) (x : List ℕ) where
     trail_next v next p l s en t = record { along = λ e h. along_next v next p (t.along e h) s (link_is v next p l en e h) }
 
     module _ (room : at + index_size ≤ length w) (v : ℕ) where
-      -- a value past the nodes, and a link that does not lead down, are in no right index
-      pub trail_past : n < v → Trail node w at n x v → SearchIs n
-      trail_past l t good e ix = finds_none good (λ g. absurd (let a = t.along e (ix g (omega arith)) in omega (arith, a.low)))
-
-      pub trail_wrong : (next : ℕ) → 0 < v → v ≤ n → next ≡ get_or w (at + part_size + (v - 1)) 0 → v ≤ next → SearchIs n
+      -- a link that does not lead down is in no right index
+      pub trail_wrong : (next : ℕ) → 0 < v → v ≤ n → next ≡ get_or w (at + part_size + (v - 1)) 0 → v ≤ next → SearchIs None
       trail_wrong next p l en up good e ix =
           finds_none good
           (λ g.
           absurd
           (omega
           (arith, last_le node (bucket (node (v - 1))) (v - 1), link_is v next p l en e (ix g (omega arith)))))
-
-      pub trail_end : v ≡ 0 → Trail node w at n x v → SearchIs n
-      trail_end z t good e ix = finds_none good (λ g k l. (t.along e (ix g (omega arith))).none k (omega arith) l)
 
 -- node n at the head of its chain
 module _ (node : ℕ → List ℕ) (w : List ℕ) (n at b : ℕ) where

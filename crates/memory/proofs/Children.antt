@@ -4,7 +4,6 @@ use mathlib.Core.List.{List, []}
 use mathlib.Core.Bool.{Bool, true, false, ◌&&◌}
 use Prim.Native.Nat.{ℕ, zero, suc, ◌+◌, ◌*◌, ◌/◌, ◌%◌, ◌<◌, ◌≤◌}
 use native.Mathlib.Omega.{arith}
-use native.Mathlib.Nat.{mul-div-le}
 use lib.ListN.{length, get_or}
 use Rattle.model.specs.Programs.{all_below}
 use Rattle.model.specs.Safety.{Within}
@@ -32,10 +31,6 @@ child_at K B m n h d room w p =
     let e : get_or (nodes K (plain K B m n)) i [] ≡ row c m i = plain_at K B m n i l in
     let f : c * i + c ≤ length m = omega (arith, row_within c i n l, places_fit c m n room) in
     rw e (turned_at K (h % 2) d (row c m i) (omega (arith, row_length c m i f)) ∙ ap (turned K (h % 2)) (row_at c m i d p))
-
--- the numbers of a place are within the slice
-pub place_room : (c : ℕ) (m : List ℕ) (i : ℕ) → i < length m / c → c * i + c ≤ length m
-place_room c m i h = omega (arith, row_within c i (length m / c) h, mul-div-le (length m) c)
 
 -- what `child_of` gives for the place i of h
 module _ (K : Kind) (B : Store) (m : List ℕ) (c n h d i : ℕ) (a : c ≡ arity K) (room : n ≤ places c m) (w : Within K (plain K B m n) h)

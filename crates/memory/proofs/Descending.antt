@@ -15,9 +15,6 @@ pub record Descended (K : Kind) (S : Store) (l cur g : ℕ) : Type 0 where
   pub sum : l ≡ cur + rest
   pub held : Held K S rest g
 
-pub descended_start : {K : Kind} {S : Store} {l h : ℕ} → Held K S l h → Descended K S l 0 h
-descended_start {l = l} A = record { rest = l; sum = omega arith; held = A }
-
 pub descended_low : {K : Kind} {S : Store} {l cur g : ℕ} → g < 2 → Descended K S l cur g → cur ≡ l
 descended_low {K} {S} {l} {cur} {g} b G = omega (arith, G.sum, low_level K S G.rest g G.held b)
 

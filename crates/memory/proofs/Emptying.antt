@@ -1,5 +1,5 @@
 -- Taking all nodes out of the index: its heads become zero, from the laws of a part put back.
-use mathlib.Core.Path.{◌≡◌, refl, sym, ap, ◌∙◌, subst}
+use mathlib.Core.Path.{◌≡◌, sym, ap, ◌∙◌, subst}
 use mathlib.Core.List.{List, ◌++◌}
 use Prim.Native.Nat.{ℕ, ◌+◌, ◌-◌, ◌<◌, ◌≤◌}
 use native.Mathlib.Omega.{arith}
@@ -8,12 +8,6 @@ use lib.Seq.{drop-drop, get_or-append-add, length-take-le}
 use borrow.Rule.Slice.PartMut.{mid_of, post_of, put_mid, same_len_mid, take_put, drop_put, mid_len}
 use Rattle.memory.specs.Finding.{Emptied}
 use Rattle.memory.specs.Working.{memo_size, last_in, index_size, part_size}
-
-pub no_index : (w : List ℕ) (p : ℕ) → p ≡ memo_size (length w) → length w - p < index_size → Emptied w w
-no_index w p e h = record {
-  index = λ node f. absurd (let z : ⊥ = omega (arith, e) in z);
-  apart = record { memo = refl; words = refl; work_length = refl };
-}
 
 -- z is put for the heads, from p on
 module _ (w z : List ℕ) (p : ℕ) (e : p ≡ memo_size (length w)) (h : index_size ≤ length w - p)

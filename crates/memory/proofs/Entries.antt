@@ -1,20 +1,17 @@
 -- The entries of the memo: one that is read answers, and one that is written leaves the others as they were.
 use mathlib.Core.Path.{◌≡◌, refl, ap, ◌∙◌, subst}
 use mathlib.Core.List.{List}
-use mathlib.Core.Logic.{◌⊎◌, inl, inr}
-use Prim.Native.Nat.{ℕ, ◌+◌, ◌*◌, ◌/◌, ◌%◌, ◌<◌, ◌≤◌}
-use native.Mathlib.Decide.{ℕ_discrete}
+use Prim.Native.Nat.{ℕ, ◌+◌, ◌*◌, ◌/◌, ◌%◌, ◌<◌}
 use native.Mathlib.Omega.{arith}
-use lib.ListN.{length, get_or, set, length-set}
-use lib.Seq.{get_or-set_same, get_or-set_other, drop-set-lt}
+use lib.ListN.{length, get_or}
 use Rattle.model.specs.Store.{Store}
 use Rattle.model.specs.Programs.{ran, run}
 use Rattle.model.specs.Safety.{Settled}
 use Rattle.model.proofs.Extends.{ext_refl}
 use Rattle.memory.specs.Memo.{memo_program, op_limit}
 use Rattle.memory.specs.Working.{memo_size, operand_limit, entry_result, first_number, key_number, Entry, Remembers}
-use Rattle.memory.specs.Performing.{Recalls, Says, KeepsEntry}
-use Rattle.memory.specs.declared.Lookup.TheVariants.{Answer, Operands}
+use Rattle.memory.specs.Performing.{Recalls, Says}
+use Rattle.std.specs.Prelude.{Some}
 
 -- what the two numbers of an entry say
 says : (x y op l a b : ℕ) → op < op_limit → a < operand_limit → b < operand_limit → x ≡ first_number op a b → y / operand_limit ≡ key_number op l
@@ -47,48 +44,6 @@ hit w S i op l a b r o u v even lt ex ey k p R =
     let f : Entry (get_or w i 0) r S = subst (λ y. Entry (get_or w i 0) y S) ey e in
     (says_settled _ _ _ _ _ _ _ (says (get_or w i 0) r op l a b o u v ex k) p f).again S ext_refl
 
-pub recalls_none : {w : List ℕ} {op l a b : ℕ} → Recalls w op l a b (Operands a b)
-recalls_none = record { recalls = λ S h R e. absurd (let z : ◌≡◌ {A = ℕ} 0 1 = cc in omega arith); else = λ x y e. (cc, cc) }
-
 pub recalls_hit : {w : List ℕ} {op l a b h : ℕ} → ((S : Store) → Remembers w S → run (memo_program op l a b) S ≡ ran S h)
-    → Recalls w op l a b (Answer h)
-recalls_hit {op = op} {l} {a} {b} {h} f = record {
-  recalls = λ S g R e. let eh : h ≡ g = cc in f S R ∙ ap (ran S) eh;
-  else = λ x y e. absurd (let z : ◌≡◌ {A = ℕ} 0 1 = cc in omega arith);
-}
-
--- WRITING
-pub keeps_none : {w : List ℕ} {op l a b h : ℕ} → KeepsEntry w w op l a b h
-keeps_none = record { entries = λ j i. inl (refl, refl); rest = refl; work_length = refl }
-
-module _ (w : List ℕ) (i x y : ℕ) where
-  abbrev pub wrote_entry : List ℕ
-  wrote_entry = set (set w i x) (i + 1) y
-
-  wrote_other : (n : ℕ) → ¬ (n ≡ i) → ¬ (n ≡ i + 1) → get_or wrote_entry n 0 ≡ get_or w n 0
-  wrote_other n d e = get_or-set_other (set w i x) (i + 1) n y 0 e ∙ get_or-set_other w i n x 0 d
-
-  wrote_first : i + 1 < length w → get_or wrote_entry i 0 ≡ x
-  wrote_first l = get_or-set_other (set w i x) (i + 1) i y 0 (λ e. let z : ⊥ = omega arith in z) ∙ get_or-set_same w i x 0 (omega arith)
-
-  wrote_second : i + 1 < length w → get_or wrote_entry (i + 1) 0 ≡ y
-  wrote_second l = get_or-set_same (set w i x) (i + 1) y 0 (omega (arith, length-set w i x))
-
-pub keeps_wrote : (w : List ℕ) (i x y op l a b h : ℕ) → op < op_limit → a < operand_limit → b < operand_limit → h < operand_limit
-    → x ≡ first_number op a b → y ≡ key_number op l * operand_limit + h → i % 2 ≡ 0 → i + 1 < memo_size (length w) → memo_size (length w) ≤ length w
-    → KeepsEntry w (wrote_entry w i x y) op l a b h
-keeps_wrote w i x y op l a b h o u v t ex ey even lt m = record {
-  entries = λ j lj. go j (ℕ_discrete (2 * j) i);
-  rest = drop-set-lt (memo_size (length w)) _ (i + 1) y lt ∙ drop-set-lt (memo_size (length w)) w i x (omega arith);
-  work_length = simp length-set;
-}
-  where
-    go : (j : ℕ) → Dec (2 * j ≡ i)
-        → ((get_or (wrote_entry w i x y) (2 * j) 0 ≡ get_or w (2 * j) 0) × (get_or (wrote_entry w i x y) (2 * j + 1) 0 ≡ get_or w (2 * j + 1) 0))
-        ⊎ Says (get_or (wrote_entry w i x y) (2 * j) 0) (get_or (wrote_entry w i x y) (2 * j + 1) 0) op l a b h
-    go j (yes e) = inr (rw (e, wrote_first w i x y (omega arith), wrote_second w i x y (omega arith))
-        (subst (Says x y op l a b) (let r : entry_result y ≡ h = omega (arith, t, ey) in r) (says x y op l a b o u v ex (omega (arith, t, ey)))))
-    go j (no d) = inl (
-      wrote_other w i x y (2 * j) d (λ e. let z : ⊥ = omega arith in z),
-      wrote_other w i x y (2 * j + 1) (λ e. let z : ⊥ = omega arith in z) (λ e. d (omega arith)),
-    )
+    → Recalls w op l a b (Some h)
+recalls_hit {h = h} f = record { recalls = λ S g R e. let eh : h ≡ g = cc in f S R ∙ ap (ran S) eh }

@@ -3,7 +3,8 @@
 use mathlib.Core.Path.{◌≡◌, refl, sym, ap, ◌∙◌, subst}
 use mathlib.Core.Logic.{◌⊎◌, inl, inr}
 use mathlib.Core.List.{List, [], ◌∷◌, ◌++◌}
-use mathlib.Core.Bool.{Bool, true, false, ◌&&◌, ◌||◌}
+use Rattle.std.specs.Prelude.{Option, Some, None}
+use mathlib.Core.Bool.{Bool, true, false, ◌||◌}
 use Prim.Native.Nat.{ℕ, ◌+◌, ◌*◌, ◌%◌, ◌<◌, ◌≤◌}
 use native.Mathlib.Omega.{arith}
 use native.Mathlib.Decide.{dec_lt, ℕ_discrete}
@@ -22,8 +23,7 @@ use Rattle.model.proofs.Mk.{Had, had, mk_ext, handle_big, mk_formed}
 use Rattle.model.proofs.Reducing.{formed_more}
 use Rattle.model.proofs.Settle.{agrees_kept, settled_later}
 use Rattle.model.proofs.Signs.{index_handle, with_sign_zero}
-use Rattle.memory.specs.declared.RunState.{RunState}
-use Rattle.memory.specs.Performing.{run_state, Ready, ends, Runs, Joins, JoinsAs}
+use Rattle.memory.specs.Performing.{run_state, going, Ready, ends, Runs, Joins}
 use Rattle.memory.specs.Finding.{Search, Entered}
 use Rattle.memory.specs.Noting.{Noted}
 use Rattle.memory.specs.Rows.{row, rows, places, plain, most_places}
@@ -130,112 +130,112 @@ with_same : (K : Kind) (S : Store) → with_nodes K (nodes K S) S ≡ S
 with_same set S = refl
 with_same rel S = refl
 
-module _ {K : Kind} {B : Store} {s : RunState} {m w : List ℕ} (y x : List ℕ) (ok : s.ok ≡ true) (R : Ready K (mk K y) B s m w) (e : x ≡ stored K y) where
-  pub join_found : (i h : ℕ) → i < s.n → row (arity K) m i ≡ x → h ≡ handle_of K (sign y) i → Runs K (mk K y) B s m m w w (run_state true s.n h)
+module _ {K : Kind} {B : Store} {n : ℕ} {m w : List ℕ} (y x : List ℕ) (R : Ready K (mk K y) B (going n) m w) (e : x ≡ stored K y) where
+  pub join_found : (i h : ℕ) → i < n → row (arity K) m i ≡ x → h ≡ handle_of K (sign y) i → Runs K (mk K y) B (going n) m m w w (run_state true n h)
   unfolding run ends mk_store mk_handle
   join_found i h l q v =
-      let S = plain K B m s.n in
-      let F = R.live ok in
-      let t = there (stored K y) (nodes K S) (F.work.formed.distinct K) i (omega (arith, plain_length K B m s.n)) (plain_at K B m s.n i l ∙ q ∙ e) in
+      let S = plain K B m n in
+      let F = R.live refl in
+      let t = there (stored K y) (nodes K S) (F.work.formed.distinct K) i (omega (arith, plain_length K B m n)) (plain_at K B m n i l ∙ q ∙ e) in
       let same : mk_store K y S ≡ S = ap (λ N. with_nodes K N S) t.0 ∙ with_same K S in
       record {
-        okay = sym ((λ j. ok j && leb (length (nodes K (same j))) (places (arity K) m))
-            ∙ le-leb _ (places (arity K) m) (omega (arith, plain_length K B m s.n, R.room)));
+        okay = sym ((λ j. leb (length (nodes K (same j))) (places (arity K) m))
+            ∙ le-leb _ (places (arity K) m) (omega (arith, plain_length K B m n, R.room)));
         done = λ _. record { store = sym same; value = v ∙ ap (handle_of K (sign y)) (sym t.1); work = F.work };
         writes = writes_same R.room;
         work_length = refl;
       }
 
-  module _ (none : (i : ℕ) → i < s.n → row (arity K) m i ≡ x → ⊥) where
-    not_there : (having (stored K y) (nodes K (plain K B m s.n)) ≡ nodes K (plain K B m s.n) ++ (stored K y ∷ [])) ×
-        (place (stored K y) (nodes K (plain K B m s.n)) ≡ s.n)
+  module _ (none : (i : ℕ) → i < n → row (arity K) m i ≡ x → ⊥) where
+    not_there : (having (stored K y) (nodes K (plain K B m n)) ≡ nodes K (plain K B m n) ++ (stored K y ∷ [])) ×
+        (place (stored K y) (nodes K (plain K B m n)) ≡ n)
     not_there =
-        let S = plain K B m s.n in
-        let t = absent (stored K y) (nodes K S) (λ i l q. let j : i < s.n = omega (arith, plain_length K B m s.n) in none i j
-        (sym (plain_at K B m s.n i j) ∙ q ∙ sym e)) in
-        (t.0, t.1 ∙ plain_length K B m s.n)
+        let S = plain K B m n in
+        let t = absent (stored K y) (nodes K S) (λ i l q. let j : i < n = omega (arith, plain_length K B m n) in none i j
+        (sym (plain_at K B m n i j) ∙ q ∙ sym e)) in
+        (t.0, t.1 ∙ plain_length K B m n)
 
-    ends_more : ends K (mk K y) (plain K B m s.n) ≡ s.n + 1
+    ends_more : ends K (mk K y) (plain K B m n) ≡ n + 1
     unfolding ends run mk_store
     ends_more =
-        let S = plain K B m s.n in
+        let S = plain K B m n in
         ap (λ N. length (nodes K (with_nodes K N S))) not_there.0 ∙ counted K (nodes K S ++ (stored K y ∷ [])) S
         ∙ length-append (nodes K S) (stored K y ∷ [])
-        ∙ ap (λ k. k + 1) (plain_length K B m s.n)
+        ∙ ap (λ k. k + 1) (plain_length K B m n)
       where
         counted : (K : Kind) (N : Nodes) (S : Store) → length (nodes K (with_nodes K N S)) ≡ length N
         counted set N S = refl
         counted rel N S = refl
 
-    pub join_full : (h : ℕ) → places (arity K) m ≤ s.n → Runs K (mk K y) B s m m w w (run_state false s.n h)
+    pub join_full : (h : ℕ) → places (arity K) m ≤ n → Runs K (mk K y) B (going n) m m w w (run_state false n h)
     join_full h l = record {
-      okay = sym ((λ j. ok j && leb (ends_more j) (places (arity K) m)) ∙ lt-leb _ (places (arity K) m) (omega arith));
+      okay = sym ((λ j. leb (ends_more j) (places (arity K) m)) ∙ lt-leb _ (places (arity K) m) (omega arith));
       done = λ t. absurd (false≢true t);
       writes = writes_same R.room;
       work_length = refl;
     }
 
-    module _ (m' w₁ w₂ : List ℕ) (sized : length x ≡ arity K) (l : s.n < places (arity K) m) (p : m' ≡ paste m (arity K * s.n) x (arity K))
-        (N : Noted K x s.n w w₁) (E : Entered (row (arity K) m') s.n w₁ w₂) where
-      fits : arity K * s.n + arity K ≤ length m
-      fits = place_fits (arity K) m s.n l
+    module _ (m' w₁ w₂ : List ℕ) (sized : length x ≡ arity K) (l : n < places (arity K) m) (p : m' ≡ paste m (arity K * n) x (arity K))
+        (N : Noted K x n w w₁) (E : Entered (row (arity K) m') n w₁ w₂) where
+      fits : arity K * n + arity K ≤ length m
+      fits = place_fits (arity K) m n l
 
-      put_head : take (arity K * s.n) m' ≡ take (arity K * s.n) m
-      put_head = ap (take (arity K * s.n)) p ∙ paste_head (arity K) s.n m x sized fits
+      put_head : take (arity K * n) m' ≡ take (arity K * n) m
+      put_head = ap (take (arity K * n)) p ∙ paste_head (arity K) n m x sized fits
 
       -- the store with the node is `mk`'s
-      put_store : plain K B m' (s.n + 1) ≡ mk_store K y (plain K B m s.n)
+      put_store : plain K B m' (n + 1) ≡ mk_store K y (plain K B m n)
       unfolding mk_store
       put_store =
-          ap (λ M. with_nodes K (rows (arity K) (s.n + 1) M) B) p ∙ ap (λ M. with_nodes K M B) (rows_paste (arity K) s.n m x sized fits)
-          ∙ ap (λ z. with_nodes K (rows (arity K) s.n m ++ (z ∷ [])) B) e
-          ∙ ap (λ M. with_nodes K (M ++ (stored K y ∷ [])) B) (sym (plain_nodes K B m s.n))
+          ap (λ M. with_nodes K (rows (arity K) (n + 1) M) B) p ∙ ap (λ M. with_nodes K M B) (rows_paste (arity K) n m x sized fits)
+          ∙ ap (λ z. with_nodes K (rows (arity K) n m ++ (z ∷ [])) B) e
+          ∙ ap (λ M. with_nodes K (M ++ (stored K y ∷ [])) B) (sym (plain_nodes K B m n))
           ∙ ap (λ M. with_nodes K M B) (sym not_there.0) ∙ sym (with_with K _ _ B)
 
-      put_extends : Extends (plain K B m s.n) (plain K B m' (s.n + 1))
-      put_extends = subst (λ T'. Extends (plain K B m s.n) T') (sym put_store) (mk_ext K y (plain K B m s.n))
+      put_extends : Extends (plain K B m n) (plain K B m' (n + 1))
+      put_extends = subst (λ T'. Extends (plain K B m n) T') (sym put_store) (mk_ext K y (plain K B m n))
 
-      new_kids : Kids K y (plain K B m s.n)
+      new_kids : Kids K y (plain K B m n)
       unfolding Safe
-      new_kids = (R.live ok).safe
+      new_kids = (R.live refl).safe
 
       more_fields : ℕ
-      more_fields = (R.live ok).work.fields + new_kids.level + 1
+      more_fields = (R.live refl).work.fields + new_kids.level + 1
 
-      put_formed : WellFormed more_fields (plain K B m' (s.n + 1))
+      put_formed : WellFormed more_fields (plain K B m' (n + 1))
       unfolding more_fields
-      put_formed = let F = (R.live ok).work in subst (WellFormed _) (sym put_store)
+      put_formed = let F = (R.live refl).work in subst (WellFormed _) (sym put_store)
           (mk_formed {l = new_kids.level} K y (formed_more (omega arith) F.formed) (omega arith) new_kids.sized new_kids.held)
 
       -- the words as they were say nothing wrong with the node there
-      words_before : Words w (plain K B m' (s.n + 1))
-      words_before J i a b = let F = (R.live ok).work in elim (dec_lt i (length (nodes J (plain K B m s.n)))) [
+      words_before : Words w (plain K B m' (n + 1))
+      words_before J i a b = let F = (R.live refl).work in elim (dec_lt i (length (nodes J (plain K B m n)))) [
         | yes o ↦ known_later J i _ F.formed put_extends o (F.words J i a o)
         | no o ↦ known_nothing _ (F.unset J i (omega arith) a)
       ]
 
-      put_get : get K (plain K B m' (s.n + 1)) (handle_of K 0 s.n) ≡ x
+      put_get : get K (plain K B m' (n + 1)) (handle_of K 0 n) ≡ x
       unfolding get
-      put_get = ap (λ i. with_sign K (handle_of K 0 s.n % 2) (get_or (nodes K (plain K B m' (s.n + 1))) i [])) (index_handle K 0 s.n)
-          ∙ ap (with_sign K (handle_of K 0 s.n % 2)) (plain_at K B m' (s.n + 1) s.n (omega arith) ∙ ap (λ M. row (arity K) M s.n) p
-          ∙ paste_row (arity K) s.n m x sized fits)
+      put_get = ap (λ i. with_sign K (handle_of K 0 n % 2) (get_or (nodes K (plain K B m' (n + 1))) i [])) (index_handle K 0 n)
+          ∙ ap (with_sign K (handle_of K 0 n % 2)) (plain_at K B m' (n + 1) n (omega arith) ∙ ap (λ M. row (arity K) M n) p
+          ∙ paste_row (arity K) n m x sized fits)
           ∙ plus K
         where
-          plus : (K : Kind) → with_sign K (handle_of K 0 s.n % 2) x ≡ x
+          plus : (K : Kind) → with_sign K (handle_of K 0 n % 2) x ≡ x
           plus rel = refl
-          plus set = let z : 2 * (s.n + 1) % 2 ≡ 0 = omega arith in ap (λ k. with_sign set k x) z ∙ with_sign_zero x
+          plus set = let z : 2 * (n + 1) % 2 ≡ 0 = omega arith in ap (λ k. with_sign set k x) z ∙ with_sign_zero x
 
       long : length w₁ ≡ length w
-      long = noted_long K x s.n w w₁ N
+      long = noted_long K x n w w₁ N
 
       -- each word but the new one is as it was
       word_entered : (J : Kind) (i : ℕ) → get_or w₂ (words_at J (length w₂) + i) 0 ≡ get_or w₁ (words_at J (length w₁) + i) 0
       word_entered = words_same w₁ w₂ E.apart.work_length E.apart.words
 
-      word_other : (J : Kind) (i : ℕ) → ¬ ((J ≡ K) × (i ≡ s.n)) → i < most_places
+      word_other : (J : Kind) (i : ℕ) → ¬ ((J ≡ K) × (i ≡ n)) → i < most_places
           → get_or w₂ (words_at J (length w₂) + i) 0 ≡ get_or w (words_at J (length w) + i) 0
       word_other J i o a = word_entered J i ∙ ap (λ k. get_or w₁ (words_at J k + i) 0) long
-          ∙ noted_other K x s.n w w₁ N _ (λ q. o (apart J K (length w) i s.n a (omega arith) q))
+          ∙ noted_other K x n w w₁ N _ (λ q. o (apart J K (length w) i n a (omega arith) q))
 
       kinds : (J : Kind) → Dec (J ≡ K)
       kinds J = both J K
@@ -246,9 +246,9 @@ module _ {K : Kind} {B : Store} {s : RunState} {m w : List ℕ} (y x : List ℕ)
           both set rel = no (λ q. let z : ◌≡◌ {A = ℕ} 0 1 = cc in omega arith)
           both rel set = no (λ q. let z : ◌≡◌ {A = ℕ} 0 1 = cc in omega arith)
 
-      words_after : Words w₂ (plain K B m' (s.n + 1))
+      words_after : Words w₂ (plain K B m' (n + 1))
       words_after J i a b = elim (kinds J) [
-        | yes q ↦ elim (ℕ_discrete i s.n) [
+        | yes q ↦ elim (ℕ_discrete i n) [
           | yes r ↦ new J i q r
           | no r ↦ old J i (λ z. r z.1) a b
         ]
@@ -256,103 +256,91 @@ module _ {K : Kind} {B : Store} {s : RunState} {m w : List ℕ} (y x : List ℕ)
       ]
         where
           S' : Store
-          S' = plain K B m' (s.n + 1)
+          S' = plain K B m' (n + 1)
 
-          old : (J : Kind) (i : ℕ) → ¬ ((J ≡ K) × (i ≡ s.n)) → i < most_places → i < length (nodes J S')
+          old : (J : Kind) (i : ℕ) → ¬ ((J ≡ K) × (i ≡ n)) → i < most_places → i < length (nodes J S')
               → Known J S' (handle_of J 0 i) (get_or w₂ (words_at J (length w₂) + i) 0)
           old J i o a b = subst (λ v. Known J S' (handle_of J 0 i) v) (sym (word_other J i o a)) (words_before J i a b)
 
-          noted : Known K S' (handle_of K 0 s.n) N.word
-          noted = N.known more_fields S' (handle_of K 0 s.n) put_formed words_before (handle_big K 0 s.n) put_get
+          noted : Known K S' (handle_of K 0 n) N.word
+          noted = N.known more_fields S' (handle_of K 0 n) put_formed words_before (handle_big K 0 n) put_get
 
-          new : (J : Kind) (i : ℕ) → J ≡ K → i ≡ s.n → Known J S' (handle_of J 0 i) (get_or w₂ (words_at J (length w₂) + i) 0)
+          new : (J : Kind) (i : ℕ) → J ≡ K → i ≡ n → Known J S' (handle_of J 0 i) (get_or w₂ (words_at J (length w₂) + i) 0)
           new J i q r = subst (λ J. Known J S' (handle_of J 0 i) (get_or w₂ (words_at J (length w₂) + i) 0)) (sym q)
               (subst (λ i. Known K S' (handle_of K 0 i) (get_or w₂ (words_at K (length w₂) + i) 0)) (sym r)
-              (subst (λ v. Known K S' (handle_of K 0 s.n) v) (sym (word_entered K s.n))
-              (elim (noted_word K x s.n w w₁ N) [
-                | inl z ↦ subst (λ v. Known K S' (handle_of K 0 s.n) v) (sym z) noted
+              (subst (λ v. Known K S' (handle_of K 0 n) v) (sym (word_entered K n))
+              (elim (noted_word K x n w w₁ N) [
+                | inl z ↦ subst (λ v. Known K S' (handle_of K 0 n) v) (sym z) noted
                 | inr z ↦ known_nothing _ z
               ])))
 
-      memo_after : Remembers w₂ (plain K B m' (s.n + 1))
+      memo_after : Remembers w₂ (plain K B m' (n + 1))
       memo_after j f =
           let g : 2 * j + 1 < memo_size (length w) = subst (λ k. 2 * j + 1 < memo_size k) (E.apart.work_length ∙ long) f in
           let t : take (memo_size (length w)) w₂ ≡ take (memo_size (length w)) w = subst (λ k. take (memo_size k) w₂ ≡ take (memo_size k) w₁) long
           E.apart.memo
-          ∙ noted_memo K x s.n w w₁ N in
-          entry_same w w₂ (plain K B m' (s.n + 1)) t j g (entry_later _ _ put_extends ((R.live ok).work.memo j g))
+          ∙ noted_memo K x n w w₁ N in
+          entry_same w w₂ (plain K B m' (n + 1)) t j g (entry_later _ _ put_extends ((R.live refl).work.memo j g))
 
-      past : (J : Kind) (i : ℕ) → length (nodes J (plain K B m' (s.n + 1))) ≤ i → ¬ ((J ≡ K) × (i ≡ s.n))
+      past : (J : Kind) (i : ℕ) → length (nodes J (plain K B m' (n + 1))) ≤ i → ¬ ((J ≡ K) × (i ≡ n))
       past J i a z =
-          let e : length (nodes J (plain K B m' (s.n + 1))) ≡ s.n + 1
-          = subst (λ J. length (nodes J (plain K B m' (s.n + 1))) ≡ s.n + 1) (sym z.0) (plain_length K B m' (s.n + 1)) in
+          let e : length (nodes J (plain K B m' (n + 1))) ≡ n + 1
+          = subst (λ J. length (nodes J (plain K B m' (n + 1))) ≡ n + 1) (sym z.0) (plain_length K B m' (n + 1)) in
           omega (arith, e, z.1)
 
-      right_after : Right K B w₂ m' (s.n + 1)
-      right_after = let F = (R.live ok).work in record {
+      right_after : Right K B w₂ m' (n + 1)
+      right_after = let F = (R.live refl).work in record {
         fields = more_fields;
         formed = put_formed;
         memo = memo_after;
-        index = E.index (noted_index K x s.n w w₁ N (indexed_agree (arity K) s.n m m' w (sym put_head) F.index) (omega arith));
+        index = E.index (noted_index K x n w w₁ N (indexed_agree (arity K) n m m' w (sym put_head) F.index) (omega arith));
         words = words_after;
         unset = λ J i a b. word_other J i (past J i a) b ∙ F.unset J i (omega (arith, ext_longer J put_extends)) b;
       }
 
-      pub join_new : (h : ℕ) → h ≡ handle_of K (sign y) s.n → Runs K (mk K y) B s m m' w w₂ (run_state true (s.n + 1) h)
+      pub join_new : (h : ℕ) → h ≡ handle_of K (sign y) n → Runs K (mk K y) B (going n) m m' w w₂ (run_state true (n + 1) h)
       unfolding run mk_handle
       join_new h v = record {
-        okay = sym ((λ j. ok j && leb (ends_more j) (places (arity K) m)) ∙ le-leb _ (places (arity K) m) (omega arith));
+        okay = sym ((λ j. leb (ends_more j) (places (arity K) m)) ∙ le-leb _ (places (arity K) m) (omega arith));
         done = λ _. record { store = put_store; value = v ∙ ap (handle_of K (sign y)) (sym not_there.1); work = right_after };
         writes = record {
           grows = omega arith;
           head = put_head;
-          rest = ap (drop (arity K * (s.n + 1))) p ∙ paste_rest (arity K) s.n m x sized fits;
+          rest = ap (drop (arity K * (n + 1))) p ∙ paste_rest (arity K) n m x sized fits;
           most = omega arith;
-          long = ap length p ∙ paste_long (arity K) s.n m x sized fits;
+          long = ap length p ∙ paste_long (arity K) n m x sized fits;
         };
         work_length = E.apart.work_length ∙ long;
       }
 
--- THE RETURNS of `join`, over every store: after a failure, with a count that has no places, and the three above
-module _ {K : Kind} {s : RunState} {m w : List ℕ} (y x : List ℕ) where
-  pub joins_stuck : s.ok ≡ false → Joins K y s m m w w (run_state false s.n 0)
-  joins_stuck f = record {
-    joins = λ B h R v. record {
-      okay = sym (ap (λ b. b && leb (ends K (mk K y) (plain K B m s.n)) (places (arity K) m)) f);
-      done = λ t. absurd
-          (false≢true t);
-      writes = writes_same R.room;
-      work_length = refl;
-    };
-  }
+-- a place that a search finds is one of the n
+pub place_found : (x m w : List ℕ) {n i : ℕ} {r : Option ℕ} → Search x m w n r → r ≡ Some i → i < n
+place_found x m w {i = i} F e = ((F false (λ q. absurd (false≢true q))).hit i e).0
 
-  pub joins_never : length x ≡ arity K → places (length x) m < s.n → Joins K y s m m w w (run_state false s.n 0)
-  joins_never z l = record { joins = λ B h R v. absurd (omega (arith, R.room, subst (λ c. places c m < s.n) z l)) }
+-- THE RETURNS of `join`, over every store: with a count that has no places, and the three above
+module _ {K : Kind} {n : ℕ} {m w : List ℕ} (y x : List ℕ) where
+  pub joins_never : length x ≡ arity K → places (length x) m < n → Joins K y (going n) m m w w (run_state false n 0)
+  joins_never z l = record { joins = λ B h R v. absurd (omega (arith, R.room, subst (λ c. places c m < n) z l)) }
 
-  module _ (ok : s.ok ≡ true) (z : length x ≡ arity K) (e : x ≡ stored K y) (r : ℕ) (F : Search x m w s.n r) where
-    pub joins_found : r < s.n → Joins K y s m m w w (run_state true s.n r)
-    joins_found l = record {
-      joins = λ B h R v. join_found y x ok R e r h l (subst (λ c. row c m r ≡ x) z ((F false (λ q. absurd (false≢true q))).hit l)) v;
+  module _ (z : length x ≡ arity K) (e : x ≡ stored K y) {r : Option ℕ} (F : Search x m w n r) where
+    pub joins_found : {i : ℕ} → r ≡ Some i → Joins K y (going n) m m w w (run_state true n i)
+    joins_found {i} f = let t = (F false (λ q. absurd (false≢true q))).hit i f in record {
+      joins = λ B h R v. join_found y x R e i h t.0 (subst (λ c. row c m i ≡ x) z t.1) v;
     }
 
-    no_node : {B : Store} → Ready K (mk K y) B s m w → ¬ (r < s.n) → (i : ℕ) → i < s.n → row (arity K) m i ≡ x → ⊥
+    no_node : {B : Store} → Ready K (mk K y) B (going n) m w → r ≡ None → (i : ℕ) → i < n → row (arity K) m i ≡ x → ⊥
     no_node R o i l q =
-        let f = F true (λ _. subst (λ c. Indexed (row c m) w s.n) (sym z) (R.live ok).work.index) in
-        f.none refl (omega (arith, f.low)) i l (subst (λ c. row c m i ≡ x) (sym z) q)
+        let f = F true (λ _. subst (λ c. Indexed (row c m) w n) (sym z) (R.live refl).work.index) in
+        f.none refl o i l (subst (λ c. row c m i ≡ x) (sym z) q)
 
-    pub joins_full : ¬ (r < s.n) → places (length x) m ≤ s.n → Joins K y s m m w w (run_state false s.n 0)
-    joins_full o l = record { joins = λ B h R v. join_full y x ok R e (no_node R o) h (subst (λ c. places c m ≤ s.n) z l) }
+    pub joins_full : r ≡ None → places (length x) m ≤ n → Joins K y (going n) m m w w (run_state false n 0)
+    joins_full o l = record { joins = λ B h R v. join_full y x R e (no_node R o) h (subst (λ c. places c m ≤ n) z l) }
 
-    pub joins_new : (m' w₁ w₂ : List ℕ) → ¬ (r < s.n) → s.n < places (length x) m → m' ≡ paste m (length x * s.n) x (length x)
-        → ((K : Kind) → length x ≡ arity K → Noted K x s.n w w₁) → Entered (row (length x) m') s.n w₁ w₂
-        → Joins K y s m m' w w₂ (run_state true (s.n + 1) s.n)
+    pub joins_new : (m' w₁ w₂ : List ℕ) → r ≡ None → n < places (length x) m → m' ≡ paste m (length x * n) x (length x)
+        → ((K : Kind) → length x ≡ arity K → Noted K x n w w₁) → Entered (row (length x) m') n w₁ w₂
+        → Joins K y (going n) m m' w w₂ (run_state true (n + 1) n)
     joins_new m' w₁ w₂ o l p N E = record {
-      joins = λ B h R v. join_new y x ok R e (no_node R o) m' w₁ w₂ z (subst (λ c. s.n < places c m) z l) (subst (λ c. m' ≡ paste m (c * s.n) x c) z p)
+      joins = λ B h R v. join_new y x R e (no_node R o) m' w₁ w₂ z (subst (λ c. n < places c m) z l) (subst (λ c. m' ≡ paste m (c * n) x c) z p)
           (N K z)
-          (subst (λ c. Entered (row c m') s.n w₁ w₂) z E) h v;
+          (subst (λ c. Entered (row c m') n w₁ w₂) z E) h v;
     }
-
--- what `fails` gives
-pub failed : {x : List ℕ} {s r : RunState} {m w : List ℕ} → r ≡ run_state false s.n 0
-    → ((K : Kind) (y : List ℕ) → length x ≡ arity K → x ≡ stored K y → Joins K y s m m w w (run_state false s.n 0)) → JoinsAs x s m m w w r
-failed {x} {s} {r} {m} {w} e h = subst (λ q. JoinsAs x s m m w w q) (sym e) (record { small = omega arith; node = h })

@@ -3,12 +3,12 @@ use mathlib.Core.Path.{◌≡◌, refl, sym, ap, ◌∙◌, subst}
 use mathlib.Core.Logic.{◌⊎◌, inl, inr}
 use mathlib.Core.List.{List}
 use mathlib.Core.Bool.{Bool, true, false, ◌&&◌}
-use Prim.Native.Nat.{ℕ, zero, suc, ◌+◌, ◌-◌, ◌*◌, ◌/◌, ◌%◌, ◌<◌, ◌≤◌, min}
+use Prim.Native.Nat.{ℕ, zero, suc, ◌+◌, ◌-◌, ◌/◌, ◌<◌, ◌≤◌, min}
 use native.Mathlib.Omega.{arith}
 use lib.ListN.{length, get_or, take, drop, length-drop}
 use lib.Seq.{get_or-take, get_or-drop, length-take-le}
 use lib.Dec.{eqb, T}
-use Rattle.model.specs.Store.{Kind, set, rel, arity, Store, pick, handle_of, get, child, signed}
+use Rattle.model.specs.Store.{Kind, set, rel, arity, Store, handle_of, get, child, signed}
 use Rattle.model.specs.Programs.{agrees}
 use Rattle.model.specs.WellFormed.{Held, WellFormed}
 use Rattle.model.proofs.Bools.{on_digits}
@@ -20,39 +20,6 @@ use Rattle.model.proofs.Tests.{agrees_walk, walk_agrees}
 use Rattle.memory.specs.Working.{words_at, properties_in, Has, Known, Words, part_size}
 use Rattle.memory.specs.Noting.{WordsOf, properties, in_both, Gathers}
 use Rattle.memory.specs.declared.Properties.{Properties}
-
--- NUMBERS
-bit_is : (b : Bool) (n : ℕ) → n ≡ pick b 1 0 → eqb n 1 ≡ b
-bit_is true n e = rw e
-bit_is false n e = rw e
-
-twice : (b : Bool) → pick b 2 0 ≡ 2 * pick b 1 0
-twice true = refl
-twice false = refl
-
-four : (b : Bool) → pick b 4 0 ≡ 4 * pick b 1 0
-four true = refl
-four false = refl
-
-bit_low : (b : Bool) → pick b 1 0 ≤ 1
-bit_low true = omega arith
-bit_low false = omega arith
-
--- the last bit of a number, by its half
-last_bit : (q n b : ℕ) → q ≡ 2 * n + b → b ≤ 1 → q % 2 ≡ b
-last_bit q n b e i = omega arith
-
-pub word_bits : (l : ℕ) (e u i : Bool) (v : ℕ) → v ≡ 16 * l + 8 + pick e 1 0 + pick u 2 0 + pick i 4 0 → properties_in v ≡ properties e u i l
-word_bits l e u i v q =
-    let a = bit_low e in
-    let b = bit_low u in
-    let c = bit_low i in
-    let s : v ≡ 16 * l + 8 + pick e 1 0 + 2 * pick u 1 0 + 4 * pick i 1 0 = omega (arith, q, twice u, four i) in
-    let x = last_bit (v / 1) (8 * l + 4 + pick u 1 0 + 2 * pick i 1 0) (pick e 1 0) (omega arith) a in
-    let y = last_bit (v / 2) (4 * l + 2 + pick i 1 0) (pick u 1 0) (omega arith) b in
-    let z = last_bit (v / 4) (2 * l + 1) (pick i 1 0) (omega arith) c in
-    let t : v / 16 ≡ l = omega arith in
-    rw (bit_is e _ x, bit_is u _ y, bit_is i _ z, t)
 
 -- a kind by its child count
 pub is_set : (P : Kind → Type 0) → P set → (K : Kind) → 2 ≡ arity K → P K
@@ -135,9 +102,6 @@ gathers_in {K} w x s e r q a b G = record {
   known = λ k S h F W. G.known k S h F (words_part K w S s e q a b W);
   level = λ k S F W. G.level k S F (words_part K w S s e q a b W);
 }
-
-pub gathers_nothing : {K : Kind} {W : Store → Type 0} (x : List ℕ) (r : ℕ) → r ≡ 0 → Gathers K W x r
-gathers_nothing x r e = record { known = λ k S h F w b g. known_nothing r e; level = λ k S F w p. absurd (omega arith) }
 
 -- A NODE, from its children
 and_two : {a b a' b' : Bool} → a ≡ a' → b ≡ b' → (a && (b && true)) ≡ (a' && b')
@@ -243,7 +207,3 @@ pub relation_properties : {on off p q : Properties} {e u i : Bool} → e ≡ (on
     → i ≡ (on.identity && off.empty) → on ≡ p → off ≡ q
     → properties e u i (on.level + 1) ≡ properties (p.empty && q.empty) (p.universal && q.universal) (p.identity && q.empty) (p.level + 1)
 relation_properties a b c d e = rw (a, b, c, d, e)
-
-pub both_properties : {a b p q : Properties} {e u i : Bool} → e ≡ (a.empty && b.empty) → u ≡ (a.universal && b.universal) → i ≡ (a.identity && b.identity)
-    → a ≡ p → b ≡ q → properties e u i a.level ≡ in_both p q
-both_properties x y z f g = rw (x, y, z, f, g)

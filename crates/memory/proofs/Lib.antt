@@ -9,8 +9,11 @@ pub mod Children
 pub mod Walks
 pub mod Steps
 pub mod OtherNodes
+pub mod Shortcuts
 pub mod ReadingOnly
 pub mod Remembering
+pub mod Stopping
+pub mod YesNo
 pub mod Joining
 pub mod Looking
 pub mod Starting

@@ -12,8 +12,7 @@ use Rattle.model.specs.Safety.{Safe, ReadOnly}
 use Rattle.model.proofs.ReadOnly.{run_same}
 use Rattle.memory.specs.Rows.{places, plain}
 use Rattle.memory.specs.Working.{Right}
-use Rattle.memory.specs.Performing.{run_state, ends, Condition, PerformsOn}
-use Rattle.memory.specs.declared.RunState.{RunState}
+use Rattle.memory.specs.Performing.{RunState, going, ends, Condition, PerformsOn}
 use Rattle.memory.proofs.Rows.{plain_length}
 
 fits : (K : Kind) (p : Prog) (S : Store) (q : ℕ) → ReadOnly p → length (nodes K S) ≤ q → leb (ends K p S) q ≡ true
@@ -25,7 +24,7 @@ pub record Gives (K : Kind) (B : Store) (p : Prog) (m w' : List ℕ) (n h : ℕ)
   pub work : Right K B w' m n
 
 pub reads_only : {Q : Condition} {K : Kind} {p : Prog} {m w w' : List ℕ} {n : ℕ} {r : RunState} → ReadOnly p
-    → PerformsOn Q K p (run_state true n 0) m m w w' r → (B : Store) → Q B → n ≤ places (arity K) m → Safe p (plain K B m n) → Right K B w m n
+    → PerformsOn Q K p (going n) m m w w' r → (B : Store) → Q B → n ≤ places (arity K) m → Safe p (plain K B m n) → Right K B w m n
     → Gives K B p m w' n r.h
 reads_only {K = K} {p} {m} {w} {w'} {n} {r} o P B c f s R =
     let S = plain K B m n in

@@ -4,23 +4,22 @@ use mathlib.Core.Path.{◌≡◌, refl, sym, ap, ◌∙◌, subst}
 use mathlib.Core.Logic.{inl, inr}
 use mathlib.Core.List.{List}
 use mathlib.Core.Bool.{true}
+use Rattle.std.specs.Prelude.{Option, Some, None}
 use Prim.Native.Nat.{ℕ, ◌+◌, ◌*◌, ◌<◌, ◌≤◌}
 use native.Mathlib.Nat.{add_assoc}
 use lib.ListN.{length, get_or, drop}
 use Rattle.model.specs.Programs.{Prog, ret, Ran, run}
-use Rattle.model.specs.Safety.{Safe, Settled, ReducesTo}
-use Rattle.model.specs.Store.{Kind, set, rel, arity, Store, handle_of}
+use Rattle.model.specs.Safety.{Safe, Settled}
+use Rattle.model.specs.Store.{Kind, set, rel, Store, handle_of}
 use Rattle.model.proofs.Settle.{settled}
-use Rattle.memory.specs.declared.RunState.{RunState}
 use Rattle.memory.specs.declared.Lookup.{Lookup}
-use Rattle.memory.specs.declared.Lookup.TheVariants.{Answer, Operands}
-use Rattle.memory.specs.Performing.{Ready, Condition, PerformsOn, ReducesOn, looked_up, LooksUpOn, Recalls, KeepsEntry, Remembered}
+use Rattle.memory.specs.Performing.{RunState, ended, Ready, Condition, PerformsOn, ReducesOn, LooksUpOn, Recalls, lookup, LooksIn, KeepsEntry, Remembered}
 use Rattle.memory.specs.Memo.{memo_program}
-use Rattle.memory.specs.Rows.{places, plain}
-use Rattle.memory.specs.Working.{memo_size, links_at, words_at, Indexed, Known, Entry, Remembers, Right, index_size, set_words_from, part_size}
+use Rattle.memory.specs.Rows.{plain}
+use Rattle.memory.specs.Working.{memo_size, links_at, words_at, Indexed, Known, Entry, Remembers, index_size, set_words_from, part_size}
 use Rattle.memory.proofs.Entries.{says_entry}
 use Rattle.memory.proofs.Parts.{drop_at_same}
-use Rattle.memory.proofs.Steps.{was_ok, done_ran, turn, called}
+use Rattle.memory.proofs.Steps.{was_ok, done_ran, turn, called, answer}
 
 -- index and words are behind the memo
 module _ (w w' : List ℕ) (long : length w' ≡ length w) (rest : drop (memo_size (length w)) w' ≡ drop (memo_size (length w)) w) where
@@ -81,21 +80,31 @@ performs_keep {Q} {K} {p} {s} {r} {m} {m'} {w} {w₁} {w₂} op l a b h e d k lo
     answer B q R t = let c = d.runs B q R in
         subst (λ (Q : Ran). Settled p Q.store Q.value) (sym (done_ran c t)) (settled p (plain K B m s.n) (R.live (was_ok c t)).safe)
 
+-- the memo kept the answer of a finished run
+pub remembered : {n op l a b h : ℕ} {w w' : List ℕ} → KeepsEntry w w' op l a b h → Remembered (ended n (Some h)) op l a b w w'
+remembered k = record { kept = λ t. k; work_length = k.work_length }
+
 -- one that runs such an operation may keep its own answer
 pub performs_remember : {Q : Condition} {K : Kind} {p : Prog} {s r : RunState} {m m' w w₁ w₂ : List ℕ} (op l a b : ℕ) → p ≡ memo_program op l a b
     → PerformsOn Q K p s m m' w w₁ r → Remembered r op l a b w₁ w₂ → PerformsOn Q K p s m m' w w₂ r
 performs_remember {r = r} op l a b e d k = performs_keep op l a b r.h (λ S f. subst (λ q. Settled q S r.h) e f) d k.kept k.work_length
 
 -- what is left is done and kept in the memo
-pub called_kept : {Q : Condition} {K : Kind} {p n : Prog} {s r q : RunState} {m m' w w₁ w₂ : List ℕ} (op l a b : ℕ) → s.ok ≡ true
-    → n ≡ memo_program op l a b → ReducesOn Q K p n m w → PerformsOn Q K n s m m' w w₁ r → (q ≡ r) × Remembered r op l a b w₁ w₂
-    → PerformsOn Q K p s m m' w w₂ q
-called_kept {Q} {K} {p} {s = s} {m = m} {m' = m'} {w = w} {w₂ = w₂} op l a b ok e u d k =
-    subst (λ z. PerformsOn Q K p s m m' w w₂ z) (sym k.0) (called ok u (performs_remember op l a b e d k.1))
+pub called_remembered : {Q : Condition} {K : Kind} {p n : Prog} {s r q : RunState} {m m' w w₁ w₂ : List ℕ} (op l a b : ℕ) → n ≡ memo_program op l a b
+    → ReducesOn Q K p n m w → PerformsOn Q K n s m m' w w₁ r → (q ≡ r) × Remembered r op l a b w₁ w₂ → PerformsOn Q K p s m m' w w₂ q
+called_remembered {Q} {K} {p} {s = s} {m = m} {m' = m'} {w = w} {w₂ = w₂} op l a b e u d k =
+    subst (λ z. PerformsOn Q K p s m m' w w₂ z) (sym k.0) (called u (performs_remember op l a b e d k.1))
+
+-- the same where it gave h
+pub called_kept : {Q : Condition} {K : Kind} {p q : Prog} {s : RunState} {n h : ℕ} {r : Option ℕ} {m m' w w₁ w₂ : List ℕ} (op l a b : ℕ)
+    → q ≡ memo_program op l a b → ReducesOn Q K p q m w → PerformsOn Q K q s m m' w w₁ (ended n r) → r ≡ Some h → KeepsEntry w₁ w₂ op l a b h
+    → PerformsOn Q K p s m m' w w₂ (ended n (Some h))
+called_kept {Q} {K} {q = q} {s} {n} {m = m} {m'} {w} {w₁} op l a b e u d f k =
+    called_remembered op l a b e u (subst (λ x. PerformsOn Q K q s m m' w w₁ (ended n x)) f d) (refl, remembered k)
 
 -- the memo knows the answer of what is left
-pub recalled : {Q : Condition} {K : Kind} {p q : Prog} {m w : List ℕ} {h : ℕ} {r : Lookup} (op l a b : ℕ) → q ≡ memo_program op l a b → ReducesOn Q K p q m w
-    → Recalls w op l a b r → r ≡ Answer h → ReducesOn Q K p (ret h) m w
+pub recalled : {Q : Condition} {K : Kind} {p q : Prog} {m w : List ℕ} {h : ℕ} {r : Option ℕ} (op l a b : ℕ) → q ≡ memo_program op l a b → ReducesOn Q K p q m w
+    → Recalls w op l a b r → r ≡ Some h → ReducesOn Q K p (ret h) m w
 unfolding run Safe
 recalled {K = K} {m = m} {h = h} op l a b e u k f = turn u (λ B c n i x R. record {
   runs = ap (λ z. run z (plain K B m n)) e ∙ k.recalls (plain K B m n) h R.memo f;
@@ -104,13 +113,9 @@ recalled {K = K} {m = m} {h = h} op l a b e u k f = turn u (λ B c n i x R. reco
 
 -- shortcuts that leave a node ask the memo
 pub answer_recalled : {Q : Condition} {K : Kind} {p : Prog} {node : ℕ → ℕ → Prog} {m w : List ℕ} {r : Lookup} (op l a b : ℕ) → node a b ≡ memo_program op l a b
-    → ReducesOn Q K p (node a b) m w → Recalls w op l a b r → LooksUpOn Q K p node m w r
-unfolding run
-answer_recalled {Q} {K} {p} {node} {m} {w} {r} op l a b e u k = record { answers = λ B c n i s R. go B c n i s R r refl }
+    → ReducesOn Q K p (node a b) m w → LooksIn w op l a b r → LooksUpOn Q K p node m w r
+answer_recalled {Q} {K} {p} {node} {m} {w} op l a b e u k = subst (LooksUpOn Q K p node m w) (sym k.is) (go k.held refl)
   where
-    go : (B : Store) → Q B → (n : ℕ) → n ≤ places (arity K) m → Safe p (plain K B m n) → Right K B w m n → (z : Lookup) → r ≡ z
-        → looked_up p node (plain K B m n) z
-    go B c n i s R (Answer h) f = ((recalled op l a b e u k f).left B c n i s R).runs
-    go B c n i s R (Operands x y) f = let q = k.else x y f in
-        subst (λ x. ReducesTo p (node x y) (plain K B m n)) (sym q.0)
-        (subst (λ y. ReducesTo p (node a y) (plain K B m n)) (sym q.1) (u.left B c n i s R))
+    go : (x : Option ℕ) → k.held ≡ x → LooksUpOn Q K p node m w (lookup x a b)
+    go (Some h) f = answer (recalled op l a b e u k.recalls f)
+    go None f = record { answers = u.left }

@@ -113,12 +113,3 @@ module _ (c n : ℕ) (m x : List ℕ) (sized : length x ≡ c) (fits : c * n + c
 
   pub rows_paste : rows c (n + 1) (paste m (c * n) x c) ≡ rows c n m ++ (x ∷ [])
   rows_paste = rows_snoc c n (paste m (c * n) x c) ∙ rw (rows_agree c n m (paste m (c * n) x c) paste_head, paste_row)
-
--- a list of four numbers
-pub four_numbers : (x : List ℕ) → length x ≡ 4 → x ≡ get_or x 0 0 ∷ get_or x 1 0 ∷ get_or x 2 0 ∷ get_or x 3 0 ∷ []
-four_numbers (a ∷ b ∷ c ∷ d ∷ []) e = refl
-four_numbers [] e = absurd (omega arith)
-four_numbers (a ∷ []) e = absurd (omega arith)
-four_numbers (a ∷ b ∷ []) e = absurd (omega arith)
-four_numbers (a ∷ b ∷ c ∷ []) e = absurd (omega arith)
-four_numbers (a ∷ b ∷ c ∷ d ∷ f ∷ x) e = absurd (omega arith)

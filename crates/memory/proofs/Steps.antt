@@ -8,6 +8,7 @@ use native.Mathlib.Nat.{mul-le-mul_left}
 use lib.ListN.{length, take, drop, length-append}
 use lib.Seq.{drop-drop, take-take}
 use lib.Dec.{eqb, ltb, leb}
+use Rattle.std.specs.Prelude.{Option, Some, None}
 use borrow.Author.Tests.{le-leb, lt-leb, leb-false}
 use Rattle.model.specs.Programs.{is_empty, is_universal, is_identity, Test, same, less, has, holds, Prog, panic, ret, ask, look, bind, Ran, ran, run}
 use Rattle.model.specs.Safety.{Sure, Safe, ReducesTo}
@@ -15,11 +16,11 @@ use Rattle.model.specs.Store.{Kind, rel, arity, Store, nodes}
 use Rattle.model.specs.WellFormed.{Extends}
 use Rattle.model.proofs.Bools.{by_test}
 use Rattle.model.proofs.Settle.{run_ext}
-use Rattle.memory.specs.declared.RunState.{RunState}
 use Rattle.memory.specs.declared.Properties.{Properties}
 use Rattle.memory.specs.declared.Lookup.{Lookup}
 use Rattle.memory.specs.declared.Lookup.TheVariants.{Answer, Operands}
-use Rattle.memory.specs.Performing.{run_state, Ready, ends, Writes, Runs, Condition, PerformsOn, Performs, ReducesOn, looked_up, LooksUpOn}
+use Rattle.memory.specs.Performing.{RunState, run_state, going, ended, told, Ready, ends, Writes, Runs, Condition, PerformsOn, Performs, ReducesOn}
+use Rattle.memory.specs.Performing.{looked_up, LooksUpOn}
 use Rattle.memory.specs.Performing.{ReadsChildren, KnowsProperties}
 use Rattle.memory.specs.Rows.{places, plain, places_of}
 use Rattle.memory.specs.Working.{Right}
@@ -139,9 +140,32 @@ module _ {Q : Condition} {K : Kind} {p : Prog} {f : ℕ → Prog} {s r₁ r₂ :
     work_length = b.work_length ∙ a.work_length;
   }
 
+-- a call does not read the number that the step before it gave
+performs_from : {Q : Condition} {K : Kind} {p : Prog} {n : ℕ} (h : ℕ) {r : RunState} {m m' w w' : List ℕ} → PerformsOn Q K p (going n) m m' w w' r
+    → PerformsOn Q K p (run_state true n h) m m' w w' r
+performs_from h d = record {
+  runs = λ B c R. let b = d.runs B c (record { room = R.room; live = λ t. record { safe = (R.live t).safe; work = (R.live t).work } }) in record {
+    okay = b.okay;
+    done = λ t. record { store = (b.done t).store; value = (b.done t).value; work = (b.done t).work };
+    writes = b.writes;
+    work_length = b.work_length;
+  };
+}
+
+-- one after the other, after a failure or not
 pub performs_then : {Q : Condition} {K : Kind} {p : Prog} {f : ℕ → Prog} {s r₁ r₂ : RunState} {m m₁ m₂ w w₁ w₂ : List ℕ} → PerformsOn Q K p s m m₁ w w₁ r₁
     → PerformsOn Q K (f r₁.h) r₁ m₁ m₂ w₁ w₂ r₂ → PerformsOn Q K (bind p f) s m m₂ w w₂ r₂
 performs_then d e = record { runs = λ B c R. both_runs d e B c R }
+
+-- the first gave h, and the second goes on with it; the first gave nothing, so that the rest is not done
+module _ {Q : Condition} {K : Kind} {p : Prog} {f : ℕ → Prog} {s : RunState} {n : ℕ} {r : Option ℕ} {m m₁ w w₁ : List ℕ}
+    (d : PerformsOn Q K p s m m₁ w w₁ (ended n r)) where
+  pub performs_next : {h : ℕ} {q : RunState} {m₂ w₂ : List ℕ} → r ≡ Some h → PerformsOn Q K (f h) (going n) m₁ m₂ w₁ w₂ q
+      → PerformsOn Q K (bind p f) s m m₂ w w₂ q
+  performs_next {h} e a = performs_then (subst (λ x. PerformsOn Q K p s m m₁ w w₁ (ended n x)) e d) (performs_from h a)
+
+  pub performs_stop : r ≡ None → PerformsOn Q K (bind p f) s m m₁ w w₁ (ended n None)
+  performs_stop e = performs_then {f = f} (subst (λ x. PerformsOn Q K p s m m₁ w w₁ (ended n x)) e d) (performs_stuck refl)
 
 -- WHAT IS LEFT of p where it is safe and the working memory right is done by a call, after a failure or not
 pub performs_left : {Q : Condition} {K : Kind} {p q : Prog} {s r : RunState} {m m' w w' : List ℕ}
@@ -203,20 +227,20 @@ module _ {Q : Condition} {K : Kind} {p : Prog} {m w : List ℕ} where
     safe = subst (λ y. Safe (f y) (plain K B m n)) e a.1;
   })
 
-  -- RETURNS: all that is left is done by a call, after a failure or not; a number is left; nothing can be left at level 0
-  pub reduced : {q : Prog} {s r : RunState} {m' w' : List ℕ} → ReducesOn Q K p q m w → PerformsOn Q K q s m m' w w' r → PerformsOn Q K p s m m' w w' r
-  reduced {s = s} u = performs_left (λ B c. u.left B c s.n)
+  -- RETURNS: all that is left is done by a call; nothing can be left at level 0
+  pub called : {q : Prog} {s r : RunState} {m' w' : List ℕ} → ReducesOn Q K p q m w → PerformsOn Q K q s m m' w w' r → PerformsOn Q K p s m m' w w' r
+  called {s = s} u = performs_left (λ B c. u.left B c s.n)
 
-  pub called : {q : Prog} {s r : RunState} {m' w' : List ℕ} → s.ok ≡ true → ReducesOn Q K p q m w → PerformsOn Q K q s m m' w w' r
-      → PerformsOn Q K p s m m' w w' r
-  called ok = reduced
-
-  pub impossible : {s r : RunState} {m' w' : List ℕ} → s.ok ≡ true → ReducesOn Q K p panic m w → PerformsOn Q K p s m m' w w' r
+  pub impossible_in : {s r : RunState} {m' w' : List ℕ} → s.ok ≡ true → ReducesOn Q K p panic m w → PerformsOn Q K p s m m' w w' r
   unfolding Safe
-  impossible {s = s} ok u = record { runs = λ B c R. let F = R.live ok in absurd (u.left B c s.n R.room F.safe F.work).safe }
+  impossible_in {s = s} ok u = record { runs = λ B c R. let F = R.live ok in absurd (u.left B c s.n R.room F.safe F.work).safe }
 
+  pub impossible : {n : ℕ} {r : RunState} {m' w' : List ℕ} → ReducesOn Q K p panic m w → PerformsOn Q K p (going n) m m' w w' r
+  impossible u = impossible_in refl u
+
+  -- in any state, where nothing is done
   pub never : {s : RunState} → ReducesOn Q K p panic m w → PerformsOn Q K p s m m w w s
-  never {s} u = by_test (λ b. s.ok ≡ b → PerformsOn Q K p s m m w w s) s.ok (λ _ e. impossible e u) (λ _ e. performs_stuck e) refl
+  never {s} u = by_test (λ b. s.ok ≡ b → PerformsOn Q K p s m m w w s) s.ok (λ _ e. impossible_in e u) (λ _ e. performs_stuck e) refl
 
 -- tests on numbers, and on known properties
 pub same_says : {Q : Condition} {K : Kind} {m w : List ℕ} {a b : ℕ} {v : Bool} → eqb a b ≡ v → TestIs Q K m w (same a b) v
@@ -236,25 +260,27 @@ pub identity_says : {Q : Condition} {m w : List ℕ} {l h : ℕ} {r : Properties
     → TestIs Q rel m w (has is_identity rel l h) v
 identity_says A e = record { decides = λ B c n i R s. (A.knows R.fields B n i R.formed R.words s).identity refl ∙ e }
 
--- a number is given, after a failure or not
-pub performs_ret : {Q : Condition} {K : Kind} {s r : RunState} {m w : List ℕ} (h : ℕ) → r ≡ run_state s.ok s.n h → PerformsOn Q K (ret h) s m m w w r
+-- a number is given; it is what is left
+pub performs_ret : {Q : Condition} {K : Kind} {n h : ℕ} {m w : List ℕ} → PerformsOn Q K (ret h) (going n) m m w w (ended n (Some h))
 unfolding run ends
-performs_ret {Q} {K} {s} {r} {m} {w} h q = subst (λ x. PerformsOn Q K (ret h) s m m w w x) (sym q) (record {
+performs_ret {K = K} {n} {m = m} = record {
   runs = λ B c R. record {
-    okay = sym (ap (λ b. s.ok && b) (le-leb _ (places (arity K) m) (omega (arith, plain_length K B m s.n, R.room))) ∙ and_true s.ok);
+    okay = sym (le-leb _ (places (arity K) m) (omega (arith, plain_length K B m n, R.room)));
     done = λ t. record { store = refl; value = refl; work = (R.live t).work };
     writes = writes_same R.room;
     work_length = refl;
   };
-})
-  where
-    and_true : (b : Bool) → (b && true) ≡ b
-    and_true true = refl
-    and_true false = refl
+}
 
-pub given : {Q : Condition} {K : Kind} {p : Prog} {s r : RunState} {m w : List ℕ} {h : ℕ} → s.ok ≡ true → ReducesOn Q K p (ret h) m w
-    → r ≡ run_state s.ok s.n h → PerformsOn Q K p s m m w w r
-given {h = h} ok u q = called ok u (performs_ret h q)
+pub given : {Q : Condition} {K : Kind} {p : Prog} {n h : ℕ} {m w : List ℕ} → ReducesOn Q K p (ret h) m w
+    → PerformsOn Q K p (going n) m m w w (ended n (Some h))
+given u = called u performs_ret
+
+-- a test is left, and is answered
+pub tested : {Q : Condition} {K : Kind} {p : Prog} {n : ℕ} {t : Test} {b : Bool} {m w : List ℕ} → ReducesOn Q K p (ask t (ret 1) (ret 0)) m w
+    → TestIs Q K m w t b → PerformsOn Q K p (going n) m m w w (told n b)
+tested {b = true} u f = given (yes u f)
+tested {b = false} u f = given (no u f)
 
 -- the same program by another name
 pub performs_by : {Q : Condition} {K : Kind} {p q : Prog} {s r : RunState} {m m' w w' : List ℕ} → p ≡ q → PerformsOn Q K q s m m' w w' r

@@ -137,10 +137,6 @@ module _ {k : ℕ} {S : Store} (l g : ℕ) (F : WellFormed k S) (pos : 0 < l) (A
           let t3 : ident j (x 3) S ≡ ident j (x 0) S = ap (λ h. ident j h S) (sym e3 ∙ n ∙ e0) in
           rw (e, t2, t3) (four (ident j (x 0) S))
 
-pub identity_end : (S : Store) (l g : ℕ) → l ≡ 0 → ident l g S ≡ eqb g 1
-unfolding agrees
-identity_end S l g e = ap (λ l. ident l g S) e
-
 -- THE NODE g, from its first child x: q says whether all children are x, i whether g is the identity
 module _ {k : ℕ} {S : Store} (K : Kind) (c l g x : ℕ) (q i : Bool) (p : Properties) (a : c ≡ arity K) (F : WellFormed k S) (pos : 0 < l) (A : Held K S l g)
     (first : x ≡ child K S g 0) (all : q ≡ all_below c (λ d. eqb (child K S g d) x)) where

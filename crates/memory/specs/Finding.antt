@@ -1,20 +1,19 @@
 -- What the index's functions do.
-use Rattle.std.specs.Prelude.{◌≡◌, List, Bool, true, ℕ, ◌+◌, ◌<◌, ◌≤◌, length, take, drop}
+use Rattle.std.specs.Prelude.{◌≡◌, List, Bool, true, Option, Some, None, ℕ, ◌+◌, ◌<◌, length, take, drop}
 use Rattle.memory.specs.Rows.{row}
 use Rattle.memory.specs.Working.{memo_size, Indexed, index_size}
 
--- r is a place of x among the first n nodes, or n; where the search may be trusted, n only if x is not among them
-pub record Finds (node : ℕ → List ℕ) (n : ℕ) (x : List ℕ) (good : Bool) (r : ℕ) : Type 0 where
-  pub low : r ≤ n
-  pub hit : r < n → node r ≡ x
-  pub none : good ≡ true → r ≡ n → (k : ℕ) → k < n → node k ≡ x → ⊥
+-- r is a place of x among the first n nodes, or none; where the search may be trusted, none only if x is not among them
+pub record Finds (node : ℕ → List ℕ) (n : ℕ) (x : List ℕ) (good : Bool) (r : Option ℕ) : Type 0 where
+  pub hit : (i : ℕ) → r ≡ Some i → (i < n) × (node i ≡ x)
+  pub none : good ≡ true → r ≡ None → (k : ℕ) → k < n → node k ≡ x → ⊥
 
 -- the search for x among the first n nodes of m may be trusted where the working memory's index is right for them
-abbrev pub Search : List ℕ → List ℕ → List ℕ → ℕ → ℕ → Type 0
+abbrev pub Search : List ℕ → List ℕ → List ℕ → ℕ → Option ℕ → Type 0
 Search x m w n r = (good : Bool) → (good ≡ true → Indexed (row (length x) m) w n) → Finds (row (length x) m) n x good r
 
 -- the same of a search that is given the place where the index begins
-abbrev pub SearchAt : List ℕ → List ℕ → List ℕ → ℕ → ℕ → ℕ → Type 0
+abbrev pub SearchAt : List ℕ → List ℕ → List ℕ → ℕ → ℕ → Option ℕ → Type 0
 SearchAt x m w at n r = (good : Bool) → at ≡ memo_size (length w) → (good ≡ true → Indexed (row (length x) m) w n) → Finds (row (length x) m) n x good r
 
 -- w' is w but for its index

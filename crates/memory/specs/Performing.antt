@@ -1,6 +1,6 @@
 -- What a function on the nodes of one kind does: it runs a program, within the places. Contracts hold over every store B
 -- that has the nodes of the other kind, or over those with a condition Q.
-use Rattle.std.specs.Prelude.{◌≡◌, List, Bool, true, ◌&&◌, ◌⊎◌, ℕ, ◌+◌, ◌*◌, ◌<◌, ◌≤◌, length, get_or, take, drop, leb}
+use Rattle.std.specs.Prelude.{◌≡◌, List, Bool, true, false, Option, Some, None, ◌&&◌, ◌⊎◌, ℕ, ◌+◌, ◌*◌, ◌<◌, ◌≤◌, length, get_or, take, drop, leb}
 use Rattle.model.specs.Store.{Kind, set, rel, arity, Store, nodes, handle_of, sign, stored, get}
 use Rattle.model.specs.Programs.{Prog, mk, ran, run}
 use Rattle.model.specs.WellFormed.{Held, WellFormed}
@@ -8,13 +8,30 @@ use Rattle.model.specs.Safety.{Within, Safe, ReducesTo}
 use Rattle.memory.specs.Rows.{rows, places, plain, most_places}
 use Rattle.memory.specs.Working.{memo_size, Has, Words, entry_op, entry_level, entry_left, entry_right, entry_result, Remembers, Right}
 use Rattle.memory.specs.Memo.{memo_program}
-use Rattle.memory.specs.declared.RunState.{RunState}
 use Rattle.memory.specs.declared.Properties.{Properties}
 use Rattle.memory.specs.declared.Lookup.{Lookup}
 use Rattle.memory.specs.declared.Lookup.TheVariants.{Answer, Operands}
 
+-- THE STATE OF A RUN: the count of nodes, the number that the last step gave, and whether all nodes so far fitted
+pub record RunState : Type 0 where
+  pub n : ℕ
+  pub h : ℕ
+  pub ok : Bool
+
 abbrev pub run_state : Bool → ℕ → ℕ → RunState
 run_state ok n h = record { ok = ok; n = n; h = h }
+
+-- a call begins with n nodes, all before having fitted; it ends with n nodes and a number, or with no place left; or it says yes or no, as 1 or 0
+abbrev pub going : ℕ → RunState
+going n = run_state true n 0
+
+abbrev pub ended : ℕ → Option ℕ → RunState
+ended n (Some h) = run_state true n h
+ended n None = run_state false n 0
+
+abbrev pub told : ℕ → Bool → RunState
+told n true = run_state true n 1
+told n false = run_state true n 0
 
 -- READY: the count is within the places and, as long as all before fitted, p is safe and the working memory right
 pub record Fitting (K : Kind) (p : Prog) (B : Store) (s : RunState) (m w : List ℕ) : Type 0 where
@@ -111,9 +128,18 @@ pub record KnowsProperties (K : Kind) (m w : List ℕ) (l h : ℕ) (r : Properti
       → Has K (plain K B m n) l h r
 
 -- what the memo w holds on an operation
-pub record Recalls (w : List ℕ) (op l a b : ℕ) (r : Lookup) : Type 0 where
-  pub recalls : (S : Store) (h : ℕ) → Remembers w S → r ≡ Answer h → run (memo_program op l a b) S ≡ ran S h
-  pub else : (x y : ℕ) → r ≡ Operands x y → (x ≡ a) × (y ≡ b)
+pub record Recalls (w : List ℕ) (op l a b : ℕ) (r : Option ℕ) : Type 0 where
+  pub recalls : (S : Store) (h : ℕ) → Remembers w S → r ≡ Some h → run (memo_program op l a b) S ≡ ran S h
+
+-- what it holds is the answer, else the operands are left
+abbrev pub lookup : Option ℕ → ℕ → ℕ → Lookup
+lookup (Some h) a b = Answer h
+lookup None a b = Operands a b
+
+pub record LooksIn (w : List ℕ) (op l a b : ℕ) (r : Lookup) : Type 0 where
+  pub held : Option ℕ
+  pub recalls : Recalls w op l a b held
+  pub is : r ≡ lookup held a b
 
 -- the numbers x and y are the entry of an operation's answer h
 pub record Says (x y op l a b h : ℕ) : Type 0 where

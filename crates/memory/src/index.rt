@@ -3,6 +3,9 @@ ghost use Rattle.std.specs.Prelude.{◌≡◌, List, [], ◌∷◌, Bool, true, 
 ghost use Rattle.memory.specs.Rows.{row, most_places};
 ghost use Rattle.memory.specs.Working.{index_size, memo_size, bucket, part_size};
 ghost use Rattle.memory.specs.Finding.{Finds, Search, SearchAt, Entered, Emptied};
+ghost use Rattle.memory.specs.Noting.{Noted};
+ghost use Rattle.model.specs.Store.{Kind, arity};
+ghost use Rattle.std.proofs.Math.Seq.{paste};
 
 // THE PARTS of the working memory after the memo, specs/Working: the bucket heads, the links, the words of relations and those of sets, so many numbers each.
 pub const PART: usize = 4096;
@@ -24,12 +27,10 @@ pub fn memo_size(len: usize) -> usize
     ensures { (result ≡ memo_size len) × (result ≤ len) }
 {
     if len < WHOLE {
-        if len < PART {
-            return len;
-        }
-        return PART;
+        PART.min(len)
+    } else {
+        len - PARTS
     }
-    len - PARTS
 }
 
 // The bucket of four numbers.
@@ -43,11 +44,11 @@ pub(crate) fn bucket(a: u32, b: u32, c: u32, d: u32) -> usize
     (h % 4294967296 / 1048576) as usize
 }
 
-// Number j of a node, 0 where it has fewer.
+// Number j of a node, 0 where it has fewer: a bucket is of four numbers.
 fn number(x: &[u32], j: usize) -> u32
     ensures { result ≡ get_or x.now j 0 }
 {
-    if j < x.len() { x[j] } else { 0 }
+    x.get(j).copied().unwrap_or(0)
 }
 
 // The bucket of a node.
@@ -57,85 +58,125 @@ pub fn hash(x: &[u32]) -> usize
     bucket(number(x, 0), number(x, 1), number(x, 2), number(x, 3))
 }
 
-// Whether two slices hold the same numbers.
-fn equal(a: &[u32], b: &[u32]) -> bool
-    ensures yes { result ≡ true → a.now ≡ b.now }
-    ensures no { result ≡ false → a.now ≡ b.now → ⊥ }
-{
-    if a.len() != b.len() {
-        return false;
-    }
-    let mut j = 0;
-    while j < a.len() {
-        if a[j] != b[j] {
-            return false;
-        }
-        j += 1;
-    }
-    true
+// A node's numbers as they are handed on: a slice, or a relation's four one by one (relation_node).
+pub(crate) trait Numbers: Copy {
+    ghost list: { Self → List ℕ };
+
+    // How many they are.
+    fn count(self) -> usize
+        ensures { result ≡ length (list self) };
+
+    // Whether node i has them.
+    fn is_at(self, nodes: &[u32], i: usize) -> bool
+        requires { length (list self) * i + length (list self) ≤ length nodes.now }
+        ensures yes { result ≡ true → row (length (list self)) nodes.now i ≡ list self }
+        ensures no { result ≡ false → row (length (list self)) nodes.now i ≡ list self → ⊥ };
+
+    // Their bucket.
+    fn hash(self) -> usize
+        ensures { (result ≡ bucket (list self)) × (result < part_size) };
+
+    // Notes the word of a node that has them at place n.
+    fn note(self, work: &mut [u32], n: usize)
+        requires { n < most_places }
+        ensures { (K : Kind) → length (list self) ≡ arity K → Noted K (list self) n work.old work.new };
+
+    // Node n becomes these.
+    fn put(self, nodes: &mut [u32], n: usize)
+        requires { length (list self) * n + length (list self) ≤ length nodes.old }
+        ensures { nodes.new ≡ paste nodes.old (length (list self) * n) (list self) (length (list self)) };
 }
 
-// Whether node i is x.
-fn same(nodes: &[u32], i: usize, x: &[u32]) -> bool
-    requires { length x.now * i + length x.now ≤ length nodes.now }
-    ensures yes { result ≡ true → row (length x.now) nodes.now i ≡ x.now }
-    ensures no { result ≡ false → row (length x.now) nodes.now i ≡ x.now → ⊥ }
-{
-    let c = x.len();
-    let b = c * i;
-    let e = b + c;
-    equal(&nodes[b..e], x)
+impl<'a> Numbers for &'a [u32] {
+    ghost list = { λ x. x.now };
+
+    fn count(self) -> usize {
+        self.len()
+    }
+
+    fn is_at(self, nodes: &[u32], i: usize) -> bool {
+        let b = self.len() * i;
+        &nodes[b..b + self.len()] == self
+    }
+
+    fn hash(self) -> usize {
+        hash(self)
+    }
+
+    fn note(self, work: &mut [u32], n: usize) {
+        crate::property_words::note(work, self, n);
+    }
+
+    fn put(self, nodes: &mut [u32], n: usize) {
+        let b = self.len() * n;
+        nodes[b..b + self.len()].copy_from_slice(self);
+    }
 }
 
 // The search without an index.
-fn scan(nodes: &[u32], n: usize, x: &[u32]) -> usize
-    requires { length x.now * n ≤ length nodes.now }
-    ensures { Finds (row (length x.now) nodes.now) n x.now true result }
+fn scan<X: Numbers>(nodes: &[u32], n: usize, x: X) -> Option<usize>
+    requires { length (X.list x) * n ≤ length nodes.now }
+    ensures { Finds (row (length (X.list x)) nodes.now) n (X.list x) true result }
 {
-    let mut i = 0;
-    while i < n {
-        if same(nodes, i, x) {
-            return i;
-        }
-        i += 1;
-    }
-    n
+    (0..n).find(|&i| x.is_at(nodes, i))
 }
 
-// The search along the chain of the node's bucket; it ends whatever the index holds.
-fn chase(nodes: &[u32], work: &[u32], at: usize, n: usize, x: &[u32]) -> usize
-    requires { (length x.now * n ≤ length nodes.now) × (at + index_size ≤ length work.now) × (n ≤ most_places) }
-    ensures { SearchAt x.now nodes.now work.now at n result }
+// The search along the chain of bucket b, the node's; it ends whatever the index holds. Its loop follows links, numbers of the lent working memory of which 0
+// is none, and counts nothing.
+fn chase<X: Numbers>(
+    nodes: &[u32],
+    work: &[u32],
+    at: usize,
+    n: usize,
+    b: usize,
+    x: X,
+) -> Option<usize>
+    requires { (length (X.list x) * n ≤ length nodes.now) × (at + index_size ≤ length work.now) × (n ≤ most_places)
+        × (b ≡ bucket (X.list x)) × (b < part_size) }
+    ensures { SearchAt (X.list x) nodes.now work.now at n result }
 {
-    let b = hash(x);
-    let mut v = crate::as_index(work[at + b]);
+    let mut v = work[at + b] as usize;
     while v != 0 {
         if v > n {
-            return n;
+            return None;
         }
         let i = v - 1;
-        if same(nodes, i, x) {
-            return i;
+        if x.is_at(nodes, i) {
+            return Some(i);
         }
-        let next = crate::as_index(work[at + PART + i]);
+        let next = work[at + PART + i] as usize;
         if next >= v {
-            return n;
+            return None;
         }
         v = next;
     }
-    n
+    None
 }
 
-// A place of the first n where x is, or n; with an index of these nodes or none, n only where x is not among them.
-pub fn find(nodes: &[u32], work: &[u32], n: usize, x: &[u32]) -> usize
-    requires { (length x.now * n ≤ length nodes.now) × (n ≤ most_places) }
-    ensures { Search x.now nodes.now work.now n result }
+// A place of the first n where x is, of bucket b; with an index of these nodes or none, none only where x is not among them.
+pub(crate) fn search<X: Numbers>(
+    nodes: &[u32],
+    work: &[u32],
+    n: usize,
+    b: usize,
+    x: X,
+) -> Option<usize>
+    requires { (length (X.list x) * n ≤ length nodes.now) × (n ≤ most_places) × (b ≡ bucket (X.list x)) × (b < part_size) }
+    ensures { Search (X.list x) nodes.now work.now n result }
 {
     let at = memo_size(work.len());
     if work.len() - at < INDEX {
         return scan(nodes, n, x);
     }
-    chase(nodes, work, at, n, x)
+    chase(nodes, work, at, n, b, x)
+}
+
+// The same search for a node in a slice.
+pub fn find(nodes: &[u32], work: &[u32], n: usize, x: &[u32]) -> Option<usize>
+    requires { (length x.now * n ≤ length nodes.now) × (n ≤ most_places) }
+    ensures { Search x.now nodes.now work.now n result }
+{
+    search(nodes, work, n, hash(x), x)
 }
 
 // Node n, of bucket b, joins the index that begins at this place.
@@ -149,19 +190,25 @@ pub fn link(work: &mut [u32], at: usize, n: usize, b: usize)
     work[at + b] = n as u32 + 1;
 }
 
+// The same, where there is an index.
+pub(crate) fn link_in(work: &mut [u32], n: usize, b: usize)
+    requires { (n < most_places) × (b < part_size) }
+    ensures { (node : ℕ → List ℕ) → b ≡ bucket (node n) → Entered node n work.old work.new }
+{
+    let at = memo_size(work.len());
+    if work.len() - at >= INDEX {
+        link(work, at, n, b);
+    }
+}
+
 // Node n, of c numbers, joins the index.
 pub fn enter(nodes: &[u32], work: &mut [u32], c: usize, n: usize)
     requires { (c * n + c ≤ length nodes.now) × (n < most_places) }
     ensures { Entered (row c nodes.now) n work.old work.new }
 {
-    let at = memo_size(work.len());
-    if work.len() - at < INDEX {
-        return;
-    }
     let s = c * n;
     let e = s + c;
-    let b = hash(&nodes[s..e]);
-    link(work, at, n, b);
+    link_in(work, n, hash(&nodes[s..e]));
 }
 
 // Takes all nodes out of the index.
@@ -172,5 +219,5 @@ pub fn empty(work: &mut [u32])
     if work.len() - m < INDEX {
         return;
     }
-    crate::clear(&mut work[m..m + PART]);
+    work[m..m + PART].fill(0);
 }

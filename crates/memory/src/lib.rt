@@ -10,14 +10,6 @@ pub mod memo;
 pub mod property_words;
 pub mod relation_node;
 
-// The state of a run: whether all nodes so far fitted, the count of nodes, and the handle that the last step gave.
-#[derive(Clone, Copy)]
-pub struct RunState {
-    pub n: usize,
-    pub h: u32,
-    pub ok: bool,
-}
-
 // What the Rust's property bits say of a handle, and its level.
 #[derive(Clone, Copy)]
 pub struct Properties {
@@ -27,40 +19,20 @@ pub struct Properties {
     pub level: u32,
 }
 
-// What shortcuts or the memo know: the answer, or the operands that the operation is left with.
+// What shortcuts or the memo know: the answer, or the operands that the operation is left with. No Option or Result: the second is neither an absence nor
+// an error.
 #[derive(Clone, Copy)]
 pub enum Lookup {
     Answer(u32),
     Operands(u32, u32),
 }
 
-// A number as an index.
-pub fn as_index(x: u32) -> usize
-    ensures { result ≡ x }
-{
-    x as usize
-}
-
-// A number below 256, as a level.
-pub fn as_level(x: u32) -> u8
-    requires { x < 256 }
-    ensures { result ≡ x }
-{
-    x as u8
-}
-
-// 2 to the power l.
+// 2 to the power l, in 64 bits at level 32 too.
 pub fn power(l: u8) -> u64
     requires { l ≤ 32 }
     ensures { result ≡ 2 ^ l }
 {
-    let mut p: u64 = 1;
-    let mut i: u8 = 0;
-    while i < l {
-        p = p * 2;
-        i += 1;
-    }
-    p
+    1 << l
 }
 
 // The most places that a memory has.
@@ -71,17 +43,12 @@ pub fn places_of(len: usize, c: usize) -> usize
     requires { 0 < c }
     ensures { result ≡ places_of len c }
 {
-    let p = len / c;
-    if p < PLACES { p } else { PLACES }
+    PLACES.min(len / c)
 }
 
-// Every number of the slice becomes 0.
+// Every number of the slice becomes 0: std's `fill` under the name that the contracts of calls and an edit of must-fail have.
 pub fn clear(s: &mut [u32])
     ensures { s.new ≡ replicate (length s.old) 0 }
 {
-    let mut i = 0;
-    while i < s.len() {
-        s[i] = 0;
-        i += 1;
-    }
+    s.fill(0);
 }

@@ -1,11 +1,11 @@
-// The memo: a lossy cache of results, an entry two numbers. An operation may stand in twelve entries, its window. Where all are taken, one of the lowest
+// The memo: a lossy cache of results, an entry two numbers of lent memory, 0 where there is none. An operation may stand in twelve entries, its window. Where all are taken, one of the lowest
 // level gives way: it is the soonest made again, and asked for least once the level above is complete (docs/DECISIONS.md, Speed).
-ghost use Rattle.std.specs.Prelude.{◌≡◌, true, false, ◌+◌, ◌*◌, ◌/◌, ◌%◌, ◌<◌, ◌≤◌, length, get_or};
+ghost use Rattle.std.specs.Prelude.{◌≡◌, true, false, IfSome, ◌+◌, ◌*◌, ◌/◌, ◌%◌, ◌<◌, ◌≤◌, length, get_or};
 ghost use Rattle.model.specs.Store.{Store};
 ghost use Rattle.model.specs.Programs.{run, ran};
 ghost use Rattle.memory.specs.Memo.{op_limit, memo_program};
 ghost use Rattle.memory.specs.Working.{operand_limit, first_number, key_number, window_size, Remembers};
-ghost use Rattle.memory.specs.Performing.{Recalls, KeepsEntry, Remembered};
+ghost use Rattle.memory.specs.Performing.{Recalls, LooksIn, KeepsEntry};
 
 // THE OPERATIONS' NUMBERS, by which the memo tells them apart; specs/Memo has the same names and says which program each number is.
 pub const SET_UNION: u32 = 1;
@@ -69,10 +69,8 @@ const OPERANDS: u32 = 16384;
 
 const LEVELS: u8 = 128;
 
-// The entries of a window, specs/Working, and their numbers.
+// The entries of a window, specs/Working.
 const WINDOW: usize = 12;
-
-const WINDOW_NUMBERS: usize = 2 * WINDOW;
 
 // A memo of at most so many entries is full on common texts; there an operation has the first entry of its window alone.
 const FEW: usize = 2048;
@@ -82,10 +80,7 @@ fn fits(a: u32, b: u32) -> bool
     ensures yes { result ≡ true → (a < operand_limit) × (b < operand_limit) }
     ensures no { result ≡ false → (a < operand_limit) × (b < operand_limit) → ⊥ }
 {
-    if a >= OPERANDS {
-        return false;
-    }
-    b < OPERANDS
+    a < OPERANDS && b < OPERANDS
 }
 
 // The first number of an operation's entry.
@@ -114,19 +109,17 @@ fn window(entries: usize, first: u32, key: u32) -> usize
     2 * (h % 4294967296 * n / 4294967296) as usize
 }
 
-// The second number of the entry at i, if it is the operation's; else 0.
-fn entry(work: &[u32], i: usize, first: u32, key: u32) -> u32
+// The second number of the entry at i, if it is the operation's.
+fn entry(work: &[u32], i: usize, first: u32, key: u32) -> Option<u32>
     requires { i + 1 < length work.now }
-    ensures { 0 < result → (get_or work.now i 0 ≡ first) × (get_or work.now (i + 1) 0 ≡ result) × (result / operand_limit ≡ key) }
+    ensures { IfSome result (λ v. (get_or work.now i 0 ≡ first) × (get_or work.now (i + 1) 0 ≡ v) × (v / operand_limit ≡ key) × (0 < v)) }
 {
-    if work[i] != first {
-        return 0;
-    }
     let v = work[i + 1];
-    if v / OPERANDS != key {
-        return 0;
+    if work[i] == first && v / OPERANDS == key && v != 0 {
+        Some(v)
+    } else {
+        None
     }
-    v
 }
 
 // The entry of the window from `at` on that is the operation's, else one of the lowest level; an entry that is none is lower than all. The entry at
@@ -137,66 +130,51 @@ fn slot(work: &[u32], at: usize, first: u32, key: u32) -> usize
 {
     let mut lowest = at;
     let mut least = work[at + 1];
-    let mut i = at + 2;
-    let e = at + WINDOW_NUMBERS;
-    while i < e {
+    for j in 1..WINDOW {
+        let i = at + 2 * j;
         let v = work[i + 1];
-        if work[i] == first {
-            if v / OPERANDS == key {
-                return i;
-            }
+        if work[i] == first && v / OPERANDS == key {
+            return i;
         }
         if v < least {
             least = v;
             lowest = i;
         }
-        i += 2;
     }
     lowest
 }
 
-// The second number of the operation's entry, or 0.
-fn known(work: &[u32], op: u32, level: u8, a: u32, b: u32) -> u32
+// What the memo holds on an operation of this level on a and b.
+pub fn recall(work: &[u32], op: u32, level: u8, a: u32, b: u32) -> Option<u32>
     requires { op < op_limit }
-    ensures { (S : Store) → Remembers work.now S → 0 < result → run (memo_program op level a b) S ≡ ran S (result % operand_limit) }
+    ensures { Recalls work.now op level a b result }
 {
     let entries = crate::index::memo_size(work.len()) / 2;
-    if entries < WINDOW {
-        return 0;
-    }
-    if entries > 4294967295 {
-        return 0;
-    }
-    if !fits(a, b) {
-        return 0;
+    if entries < WINDOW || entries > 4294967295 || !fits(a, b) {
+        return None;
     }
     let first = first_number(op, a, b);
     let key = key(op, level);
     let i = window(entries, first, key);
-    let v = entry(work, i, first, key);
-    if v != 0 {
-        return v;
+    if let Some(v) = entry(work, i, first, key) {
+        return Some(v % OPERANDS);
     }
-    if work[i + 1] == 0 {
-        return 0;
+    if work[i + 1] == 0 || entries <= FEW {
+        return None;
     }
-    if entries <= FEW {
-        return 0;
-    }
-    let j = slot(work, i, first, key);
-    entry(work, j, first, key)
+    let v = entry(work, slot(work, i, first, key), first, key)?;
+    Some(v % OPERANDS)
 }
 
-// What the memo holds on an operation of this level on a and b.
-pub fn recall(work: &[u32], op: u32, level: u8, a: u32, b: u32) -> crate::Lookup
+// The same for an operation whose shortcuts may change the operands: where there is no answer it is left with these.
+pub fn look_up(work: &[u32], op: u32, level: u8, a: u32, b: u32) -> crate::Lookup
     requires { op < op_limit }
-    ensures { Recalls work.now op level a b result }
+    ensures { LooksIn work.now op level a b result }
 {
-    let v = known(work, op, level, a, b);
-    if v == 0 {
-        return crate::Lookup::Operands(a, b);
+    match recall(work, op, level, a, b) {
+        Some(h) => crate::Lookup::Answer(h),
+        None => crate::Lookup::Operands(a, b),
     }
-    crate::Lookup::Answer(v % OPERANDS)
 }
 
 // The entry that an operation's answer is to have.
@@ -205,13 +183,11 @@ fn choose(work: &[u32], entries: usize, first: u32, key: u32) -> usize
     ensures { (result % 2 ≡ 0) × (result + 2 ≤ 2 * entries) }
 {
     let i = window(entries, first, key);
-    if work[i + 1] == 0 {
-        return i;
+    if work[i + 1] == 0 || entries <= FEW {
+        i
+    } else {
+        slot(work, i, first, key)
     }
-    if entries <= FEW {
-        return i;
-    }
-    slot(work, i, first, key)
 }
 
 // Keeps what an operation gave, where an entry has room for it.
@@ -220,19 +196,7 @@ pub fn keep(work: &mut [u32], op: u32, level: u8, a: u32, b: u32, h: u32)
     ensures { KeepsEntry work.old work.new op level a b h }
 {
     let entries = crate::index::memo_size(work.len()) / 2;
-    if entries < WINDOW {
-        return;
-    }
-    if entries > 4294967295 {
-        return;
-    }
-    if !fits(a, b) {
-        return;
-    }
-    if level >= LEVELS {
-        return;
-    }
-    if h >= OPERANDS {
+    if entries < WINDOW || entries > 4294967295 || !fits(a, b) || level >= LEVELS || h >= OPERANDS {
         return;
     }
     let first = first_number(op, a, b);
@@ -240,23 +204,4 @@ pub fn keep(work: &mut [u32], op: u32, level: u8, a: u32, b: u32, h: u32)
     let i = choose(work, entries, first, key);
     work[i] = first;
     work[i + 1] = key * OPERANDS + h;
-}
-
-// Keeps the handle that an operation gave, where all fitted; answers the state r.
-pub fn remember(
-    work: &mut [u32],
-    r: crate::RunState,
-    op: u32,
-    level: u8,
-    a: u32,
-    b: u32,
-) -> crate::RunState
-    requires { op < op_limit }
-    ensures { (result ≡ r) × Remembered r op level a b work.old work.new }
-{
-    if r.ok {
-        let h = r.h;
-        keep(work, op, level, a, b, h);
-    }
-    r
 }

@@ -1,4 +1,5 @@
-// Property words: what is known of a handle without looking at its nodes, and the walk where nothing is known.
+// Property words: what is known of a handle without looking at its nodes, and the walk where nothing is known. A word is a number of the lent working memory,
+// where 0 says nothing (specs/Working), and is handed on as that number, of which the contracts speak.
 ghost use Rattle.std.specs.Prelude.{◌≡◌, List, [], ◌∷◌, Bool, true, false, ◌&&◌, ℕ, ◌+◌, ◌<◌, ◌≤◌, min, length, get_or, eqb};
 ghost use Rattle.model.specs.Store.{Kind, set, rel, arity, Store, pick, index, get, signed};
 ghost use Rattle.model.specs.WellFormed.{Held, WellFormed};
@@ -16,10 +17,7 @@ pub fn word_of(r: crate::Properties) -> u32
     if r.level >= 256 {
         return 0;
     }
-    let e = if r.empty { 1 } else { 0 };
-    let u = if r.universal { 2 } else { 0 };
-    let i = if r.identity { 4 } else { 0 };
-    16 * r.level + 8 + e + u + i
+    16 * r.level + 8 + u32::from(r.empty) + 2 * u32::from(r.universal) + 4 * u32::from(r.identity)
 }
 
 // The properties in a word.
@@ -34,7 +32,7 @@ pub fn properties_in(v: u32) -> crate::Properties
     }
 }
 
-// Where the words of nodes of c numbers begin in a working memory of this length; its end where it has none.
+// Where the words of nodes of c numbers begin in a working memory of this length; its end where it has none, so that the slice from there is empty.
 fn words_start(len: usize, c: usize) -> usize
     ensures { ((K : Kind) → c ≡ arity K → result ≡ min (words_at K len) len) × (result ≤ len) }
 {
@@ -44,10 +42,7 @@ fn words_start(len: usize, c: usize) -> usize
     } else {
         crate::index::INDEX
     };
-    if len - at < after {
-        return len;
-    }
-    at + after
+    if len - at < after { len } else { at + after }
 }
 
 // Where the words that begin at s end.
@@ -55,11 +50,7 @@ fn words_end(len: usize, s: usize) -> usize
     requires { s ≤ len }
     ensures { (s ≤ result) × (result ≤ len) × (result ≤ s + part_size) }
 {
-    if len - s < crate::index::PART {
-        len
-    } else {
-        s + crate::index::PART
-    }
+    s + crate::index::PART.min(len - s)
 }
 
 // The word of a set's other handle.
@@ -74,21 +65,18 @@ fn opposite_word(v: u32) -> u32
         empty: r.universal,
         universal: r.empty,
         identity: false,
-        level: r.level,
+        ..r
     })
 }
 
-// The place of a handle's node.
+// The place of a handle's node, of any count c of numbers: what `child_of` and it take may not become less.
 pub fn place_of(c: usize, h: u32) -> usize
     ensures { (K : Kind) → c ≡ arity K → result ≡ index K h }
 {
     if h < 2 {
         return 0;
     }
-    if c == 2 {
-        return crate::as_index(h / 2 - 1);
-    }
-    crate::as_index(h - 2)
+    (if c == 2 { h / 2 - 1 } else { h - 2 }) as usize
 }
 
 // The word of 0 and 1, at level 0.
@@ -115,18 +103,11 @@ fn handle_word(words: &[u32], c: usize, h: u32) -> u32
         return 0;
     }
     let v = words[i];
-    if c == 2 {
-        if h % 2 == 1 {
-            return opposite_word(v);
-        }
+    if c == 2 && h % 2 == 1 {
+        opposite_word(v)
+    } else {
+        v
     }
-    v
-}
-
-fn both(a: bool, b: bool) -> bool
-    ensures { result ≡ (a && b) }
-{
-    a & b
 }
 
 // What two handles of one level have both.
@@ -136,9 +117,9 @@ fn shared(a: u32, b: u32) -> crate::Properties
     let x = properties_in(a);
     let y = properties_in(b);
     crate::Properties {
-        empty: both(x.empty, y.empty),
-        universal: both(x.universal, y.universal),
-        identity: both(x.identity, y.identity),
+        empty: x.empty & y.empty,
+        universal: x.universal & y.universal,
+        identity: x.identity & y.identity,
         level: x.level,
     }
 }
@@ -150,19 +131,14 @@ fn set_word(words: &[u32], x: &[u32]) -> u32
 {
     let v0 = handle_word(words, 2, x[0]);
     let v1 = handle_word(words, 2, x[1]);
-    if v0 < 8 {
-        return 0;
-    }
-    if v1 / 8 != v0 / 8 {
+    if v0 < 8 || v1 / 8 != v0 / 8 {
         return 0;
     }
     let r = shared(v0, v1);
-    let l = r.level + 1;
     word_of(crate::Properties {
-        empty: r.empty,
-        universal: r.universal,
         identity: false,
-        level: l,
+        level: r.level + 1,
+        ..r
     })
 }
 
@@ -174,26 +150,16 @@ fn relation_word(words: &[u32], x00: u32, x01: u32, x10: u32, x11: u32) -> u32
     let v01 = handle_word(words, 4, x01);
     let v10 = handle_word(words, 4, x10);
     let v11 = handle_word(words, 4, x11);
-    if v00 < 8 {
-        return 0;
-    }
-    if v01 / 8 != v00 / 8 {
-        return 0;
-    }
-    if v10 / 8 != v00 / 8 {
-        return 0;
-    }
-    if v11 / 8 != v00 / 8 {
+    if v00 < 8 || v01 / 8 != v00 / 8 || v10 / 8 != v00 / 8 || v11 / 8 != v00 / 8 {
         return 0;
     }
     let on = shared(v00, v11);
     let off = shared(v01, v10);
-    let l = on.level + 1;
     word_of(crate::Properties {
-        empty: both(on.empty, off.empty),
-        universal: both(on.universal, off.universal),
-        identity: both(on.identity, off.empty),
-        level: l,
+        empty: on.empty & off.empty,
+        universal: on.universal & off.universal,
+        identity: on.identity & off.empty,
+        level: on.level + 1,
     })
 }
 
@@ -227,10 +193,9 @@ pub fn write(work: &mut [u32], c: usize, n: usize, v: u32)
     ensures { (K : Kind) → c ≡ arity K → Written K n v work.old work.new }
 {
     let s = words_start(work.len(), c);
-    if n >= work.len() - s {
-        return;
+    if n < work.len() - s {
+        work[s + n] = v;
     }
-    work[s + n] = v;
 }
 
 // Notes the word of the node x at place n.
@@ -242,7 +207,7 @@ pub fn note(work: &mut [u32], x: &[u32], n: usize)
     write(work, x.len(), n, v);
 }
 
-// Child d of a handle, or 0 where it has no node.
+// Child d of a handle, or 0 where it has no node (`ChildOf`), so that a walk goes on in damaged memory and ends.
 pub fn child_of(nodes: &[u32], c: usize, h: u32, d: usize) -> u32
     requires { d < c }
     ensures { ChildOf nodes.now c h d result }
@@ -252,12 +217,7 @@ pub fn child_of(nodes: &[u32], c: usize, h: u32, d: usize) -> u32
         return 0;
     }
     let x = nodes[c * i + d];
-    if c == 2 {
-        if h % 2 == 1 {
-            return other(x);
-        }
-    }
-    x
+    if c == 2 && h % 2 == 1 { other(x) } else { x }
 }
 
 // The other of a set's two handles.
@@ -272,12 +232,10 @@ fn children_are(nodes: &[u32], c: usize, h: u32, x: u32) -> bool
     requires { 0 < c }
     ensures { ChildrenAre nodes.now c h x result }
 {
-    let mut d = 0;
-    while d < c {
+    for d in 0..c {
         if child_of(nodes, c, h, d) != x {
             return false;
         }
-        d += 1;
     }
     true
 }
@@ -288,14 +246,12 @@ fn walks_to(nodes: &[u32], c: usize, level: u8, h: u32, v: u32) -> bool
     ensures { WalksTo nodes.now c level h v result }
 {
     let mut g = h;
-    let mut l = level;
-    while l > 0 {
+    for _ in 0..level {
         let x = child_of(nodes, c, g, 0);
         if !children_are(nodes, c, g, x) {
             return false;
         }
         g = x;
-        l -= 1;
     }
     g == v
 }
@@ -309,13 +265,10 @@ fn is_identity(nodes: &[u32], c: usize, level: u8, h: u32, x00: u32, inner: bool
         return false;
     }
     let x01 = child_of(nodes, 4, h, 1);
-    if child_of(nodes, 4, h, 2) != x01 {
-        return false;
-    }
-    if child_of(nodes, 4, h, 3) != x00 {
-        return false;
-    }
-    if !walks_to(nodes, 4, level - 1, x01, 0) {
+    if child_of(nodes, 4, h, 2) != x01
+        || child_of(nodes, 4, h, 3) != x00
+        || !walks_to(nodes, 4, level - 1, x01, 0)
+    {
         return false;
     }
     inner
@@ -329,15 +282,14 @@ fn walked(nodes: &[u32], c: usize, level: u8, h: u32) -> u32
     if level == 0 {
         return constant_word(h);
     }
-    let l = level as u32;
     let x = child_of(nodes, c, h, 0);
     let p = properties_in(walked(nodes, c, level - 1, x));
     let same = children_are(nodes, c, h, x);
     word_of(crate::Properties {
-        empty: both(same, p.empty),
-        universal: both(same, p.universal),
+        empty: same & p.empty,
+        universal: same & p.universal,
         identity: is_identity(nodes, c, level, h, x, p.identity),
-        level: l,
+        level: level as u32,
     })
 }
 
@@ -357,12 +309,13 @@ fn word(nodes: &[u32], work: &[u32], c: usize, level: u8, h: u32) -> u32
 {
     let v = known_word(work, c, h);
     if v != 0 {
-        return v;
+        v
+    } else {
+        walked(nodes, c, level, h)
     }
-    walked(nodes, c, level, h)
 }
 
-// The properties of a relation of this level.
+// The properties of a relation of this level. It and the next are a line each, which names the child count of its kind to `word`, the one function of both.
 pub fn relation_properties(nodes: &[u32], work: &[u32], level: u8, h: u32) -> crate::Properties
     ensures { KnowsProperties rel nodes.now work.now level h result }
 {
@@ -381,14 +334,12 @@ pub fn level(nodes: &[u32], c: usize, k: u32, h: u32) -> u32
     requires { 0 < c }
     ensures { LevelIs nodes.now c k h result × (result ≤ k) }
 {
-    let mut l: u32 = 0;
     let mut g = h;
-    while l < k {
+    for l in 0..k {
         if g < 2 {
             return l;
         }
         g = child_of(nodes, c, g, 0);
-        l += 1;
     }
-    l
+    k
 }

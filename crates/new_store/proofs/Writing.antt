@@ -1,20 +1,18 @@
 -- Nodes written one after the other, those of `specs/NewNodes` of `model`, and the memory of one kind that holds no others.
 use mathlib.Core.Path.{◌≡◌, refl, sym, ap, ◌∙◌, subst}
-use mathlib.Core.List.{List, [], ◌∷◌, ◌++◌, append_assoc, append-nil}
+use mathlib.Core.List.{List, [], ◌∷◌, ◌++◌, append_assoc}
 use Prim.Native.Nat.{ℕ, ◌+◌, ◌-◌, ◌*◌, ◌<◌, ◌≤◌}
 use native.Mathlib.Nat.{mul-le-mul_left}
 use native.Mathlib.Numerals.{add-one}
 use native.Mathlib.Omega.{arith}
 use lib.ListN.{length, get_or, set as put, take, drop, replicate, length-drop, length-set}
-use lib.Seq.{drop-drop, get_or-drop, length-take-le, take_all, take-set-lt, set-append_left, get_or-set_same, paste, sets-eq}
-use borrow.Rule.Slice.PartMut.{put_mid, mid_len}
+use lib.Seq.{drop-drop, get_or-drop, length-take-le, take_all, take-set-lt, set-append_left, get_or-set_same, paste}
+use borrow.Rule.Slice.PartMut.{put_mid}
 use Rattle.model.specs.NewNodes.{levels, level_handle, level_node, new_sets, new_relations}
 use Rattle.model.specs.Store.{Kind, set, rel, arity, Nodes}
 use Rattle.memory.specs.Rows.{rows, places_of}
-use Rattle.memory.proofs.RelationNodes.{wrote, wrote_paste}
 use Rattle.memory.proofs.Rows.{paste_long, paste_rest, rows_paste}
 use Rattle.store_check.specs.Memory.{head_of, head, count_at, fields_at, places_in, flat, write}
-use Rattle.store_check.proofs.Rooms.{part_ends}
 use Rattle.call_rules.proofs.Encoding.{AllSized, write_places, write_length, write_blank, write_write}
 use Rattle.call_rules.proofs.Outcomes.{put_count}
 use Rattle.call_rules.proofs.Writing.{Free, Body, spread, write_body, tail_put}
@@ -26,9 +24,6 @@ rest_on a b m m' h e = sym (from m') ∙ ap (drop (b - a)) e ∙ from m
   where
     from : (m : List ℕ) → drop (b - a) (drop a m) ≡ drop b m
     from m = let q : a + (b - a) ≡ b = omega arith in drop-drop (b - a) a m ∙ ap (λ j. drop j m) q
-
-pub wrote_none : (c p : ℕ) (m : List ℕ) → NodesWritten c p p [] m m
-wrote_none c p m = record { long = refl; nodes = sym (append-nil (rows c p m)); rest = refl }
 
 wrote_then : {c p e f : ℕ} {N L : Nodes} {m m₁ m₂ : List ℕ} → e ≤ f → NodesWritten c p e N m m₁ → NodesWritten c e f L m₁ m₂
     → NodesWritten c p f (N ++ L) m m₂
@@ -49,27 +44,32 @@ wrote_more {c} {e = e} {m₁ = m₁} x s h W = wrote_then (omega arith) W (wrote
 next : (f : ℕ → List ℕ) (i : ℕ) → levels f i ++ (f i ∷ []) ≡ levels f (i + 1)
 next f i = ap (levels f) (sym (add-one i))
 
--- THE LOOPS
-pub wrote_set : (m m₁ : List ℕ) (i s : ℕ) → s ≡ 2 * i → 2 * i + 2 ≤ length m → NodesWritten 2 0 i (new_sets i) m m₁
-    → NodesWritten 2 0 (i + 1) (new_sets (i + 1)) m (put (put m₁ s (2 * i)) (s + 1) (2 * i))
-wrote_set m m₁ i s e h W =
-    let x : List ℕ = 2 * i ∷ 2 * i ∷ [] in
-    let q : put (put m₁ s (2 * i)) (s + 1) (2 * i) ≡ paste m₁ (2 * i) x 2
-    = ap (λ s. put (put m₁ s (2 * i)) (s + 1) (2 * i)) e ∙ rw add-one (sets-eq x m₁ (2 * i) (omega (arith, W.long))) in
-    rw (q, ← next) (wrote_more x refl h W)
+-- numbers copied over k of a list
+copied : (a k : ℕ) (m x : List ℕ) → length x ≡ k → put_mid a k m x ≡ paste m a x k
+copied a k m x e =
+    let t : take k x ≡ x = take_all k x (omega (arith, e)) in
+    (λ i. take a m ++ (sym t i ++ drop-drop k a m i)) ∙ sym (append_assoc (take a m) (take k x) (drop (a + k) m))
+
+-- THE LOOPS: a node copied to place e, at s
+wrote_node : {c p e k s : ℕ} {N : Nodes} {m m₁ : List ℕ} (x y : List ℕ) → s ≡ c * e → y ≡ x → length x ≡ c → k ≡ c → c * e + c ≤ length m
+    → NodesWritten c p e N m m₁ → NodesWritten c p (e + 1) (N ++ (x ∷ [])) m (put_mid s k m₁ y)
+wrote_node {c} {p} {e} {k} {s} {N} {m} {m₁} x y es ey l ek h W =
+    let q : put_mid s k m₁ y ≡ paste m₁ (c * e) x c = (λ i. put_mid (es i) (ek i) m₁ (ey i)) ∙ copied (c * e) c m₁ x l in
+    rw q (wrote_more x l h W)
+
+pub wrote_set : (m m₁ y : List ℕ) (i s : ℕ) → s ≡ 2 * i → y ≡ 2 * i ∷ 2 * i ∷ [] → 2 * i + 2 ≤ length m → NodesWritten 2 0 i (new_sets i) m m₁
+    → NodesWritten 2 0 (i + 1) (new_sets (i + 1)) m (put_mid s (s + 2 - s) m₁ y)
+wrote_set m m₁ y i s es ey h W = rw (← next) (wrote_node (2 * i ∷ 2 * i ∷ []) y es ey refl (omega arith) h W)
 
 pub handle_next : (p c i : ℕ) → p + i + 2 ≡ level_handle rel p c (i + 1)
 handle_next p c i = ap (level_handle rel p c) (sym (add-one i))
 
-pub wrote_level : (m m₁ : List ℕ) (p c q d i s a b : ℕ) → s ≡ 4 * (p + i) → a ≡ level_handle rel p c i → b ≡ level_handle rel q d i
-    → 4 * (p + i) + 4 ≤ length m → NodesWritten 4 p (p + i) (levels (level_node p c q d) i) m m₁
-    → NodesWritten 4 p (p + (i + 1)) (levels (level_node p c q d) (i + 1)) m (wrote m₁ s a b b a)
-wrote_level m m₁ p c q d i s a b e ea eb h W =
-    let x : List ℕ = level_node p c q d i in
-    let u : wrote m₁ s a b b a ≡ paste m₁ (4 * (p + i)) x 4
-    = (λ j. wrote m₁ (e j) (ea j) (eb j) (eb j) (ea j)) ∙ wrote_paste m₁ (4 * (p + i)) _ _ _ _ (omega (arith, W.long)) in
+pub wrote_level : (m m₁ y : List ℕ) (p c q d i s a b : ℕ) → s ≡ 4 * (p + i) → y ≡ a ∷ b ∷ b ∷ a ∷ [] → a ≡ level_handle rel p c i
+    → b ≡ level_handle rel q d i → 4 * (p + i) + 4 ≤ length m → NodesWritten 4 p (p + i) (levels (level_node p c q d) i) m m₁
+    → NodesWritten 4 p (p + (i + 1)) (levels (level_node p c q d) (i + 1)) m (put_mid s (s + 4 - s) m₁ y)
+wrote_level m m₁ y p c q d i s a b es ey ea eb h W =
     let v : p + (i + 1) ≡ p + i + 1 = omega arith in
-    rw (u, v, ← next) (wrote_more x refl h W)
+    rw (v, ← next) (wrote_node (level_node p c q d i) y es (ey ∙ (λ j. ea j ∷ eb j ∷ eb j ∷ ea j ∷ [])) refl (omega arith) h W)
 
 pub wrote_relations : {m m₁ m₂ m₃ : List ℕ} (k : ℕ) → NodesWritten 4 0 (0 + k) (levels (level_node 0 0 0 0) k) m m₁
     → NodesWritten 4 k (k + k) (levels (level_node k 1 0 0) k) m₁ m₂ → NodesWritten 4 (2 * k) (2 * k + k) (levels (level_node (2 * k) 1 (2 * k) 1) k) m₂ m₃
@@ -158,13 +158,6 @@ module _ {K : Kind} {k n : ℕ} {m₁ b : List ℕ} {N : Nodes} (m : List ℕ) (
   nodes_in_place : (g : List ℕ) → g ++ b ≡ write K g N m
   nodes_in_place g = filled K m F.headed g b n N (subst (λ p. n ≤ p) (places_by K m) F.within)
       (subst (λ m₁. NodesWritten (arity K) 0 n N (take (length m₁ - head K) (drop (head K) m₁)) b) is_bare W)
-
--- the part after the head has room for the nodes
-pub part_room : {K : Kind} {k n : ℕ} (m m₁ : List ℕ) → NewFits K k n (length m) → length m₁ ≡ length m
-    → arity K * n ≤ length (take (length m₁ - head K) (drop (head K) m₁))
-part_room {K} {k} {n} m m₁ F e =
-    let t = part_ends (length m - head K) (arity K) (places_for K (length m)) n refl F.within in
-    omega (arith, t.0, t.1, mid_len (head K) (length m₁) m₁ (omega arith))
 
 pub sets_written : {k : ℕ} {m₁ b : List ℕ} (m : List ℕ) → NewFits set k k (length m) → m₁ ≡ freed (head set) (arity set) m
     → NodesWritten 2 0 k (new_sets k) (take (length m₁ - head set) (drop (head set) m₁)) b

@@ -1,14 +1,11 @@
 -- What the functions that make a new store say; a and b are the lengths of the relation memory and the set memory.
-use Rattle.std.specs.Prelude.{◌≡◌, List, ◌++◌, ℕ, ◌+◌, ◌-◌, ◌*◌, ◌≤◌, length, drop}
+use Rattle.std.specs.Prelude.{◌≡◌, List, ◌++◌, ℕ, ◌+◌, ◌-◌, ◌*◌, ◌≤◌, length, drop, Ok, Err}
 use Rattle.model.specs.Store.{Kind, set, rel, arity, Nodes}
 use Rattle.memory.specs.Rows.{rows, places_of}
 use Rattle.store_check.specs.Commit.{cleared}
 use Rattle.store_check.specs.Memory.{Memories, head}
-use Rattle.call_rules.specs.Outcome.{outcome}
+use Rattle.call_rules.specs.Outcome.{Check, outcome}
 use Rattle.call_rules.specs.OnMemories.{new_step}
-use Rattle.call_rules.specs.declared.Answer.TheVariants.{Declined}
-use Rattle.call_rules.specs.declared.Check.{Check}
-use Rattle.call_rules.specs.declared.Check.TheVariants.{Level, No}
 
 -- the places for nodes of kind K in a memory of a numbers
 abbrev pub places_for : Kind → ℕ → ℕ
@@ -22,8 +19,8 @@ pub record NewFits (K : Kind) (k n a : ℕ) : Type 0 where
 
 -- k fields fit, or why not
 abbrev pub NewChecked : ℕ → ℕ → ℕ → Check → Type 0
-NewChecked a b k (No q) = (M : Memories) → length M.relations ≡ a → length M.sets ≡ b → outcome (Declined q) M ≡ new_step k M
-NewChecked a b k (Level l) = (l ≡ k) × NewFits rel k (3 * k) a × NewFits set k k b
+NewChecked a b k (Err q) = (M : Memories) → length M.relations ≡ a → length M.sets ≡ b → outcome (Err q) M ≡ new_step k M
+NewChecked a b k (Ok l) = (l ≡ k) × NewFits rel k (3 * k) a × NewFits set k k b
 
 -- a memory whose places are zero; nodes of c numbers begin at `start`
 abbrev pub freed : ℕ → ℕ → List ℕ → List ℕ

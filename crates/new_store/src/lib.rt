@@ -10,29 +10,26 @@ ghost use Rattle.call_rules.specs.Promise.{Meets};
 ghost use Rattle.call_rules.specs.OnMemories.{new_step};
 ghost use Rattle.new_store.specs.Creating.{NewChecked, freed, NewFits, NodesWritten};
 
+use call_rules::added::{NodeCounts, held};
+use call_rules::{Answer, Refusal, Reply};
+use memory::{clear, places_of};
 use store_check::head::*;
 
 // Whether a store of k fields fits into memories of these lengths: 3k relation nodes and k set nodes.
-fn check(relations: usize, sets: usize, k: u32) -> call_rules::Check
+fn check(relations: usize, sets: usize, k: u32) -> Result<u32, Refusal>
     ensures { NewChecked relations sets k result }
 {
     if k > 32 {
-        return call_rules::Check::No(call_rules::Refusal::OutOfRange);
+        return Err(Refusal::OutOfRange);
     }
-    if relations < RELATION_HEAD {
-        return call_rules::Check::No(call_rules::Refusal::NotStore);
+    if relations < RELATION_HEAD || sets < SET_HEAD {
+        return Err(Refusal::NotStore);
     }
-    if sets < SET_HEAD {
-        return call_rules::Check::No(call_rules::Refusal::NotStore);
+    let n = k as usize;
+    if 3 * n > places_of(relations - RELATION_HEAD, 4) || n > places_of(sets - SET_HEAD, 2) {
+        return Err(Refusal::UsedUp);
     }
-    let n = memory::as_index(k);
-    if 3 * n > memory::places_of(relations - RELATION_HEAD, 4) {
-        return call_rules::Check::No(call_rules::Refusal::UsedUp);
-    }
-    if n > memory::places_of(sets - SET_HEAD, 2) {
-        return call_rules::Check::No(call_rules::Refusal::UsedUp);
-    }
-    call_rules::Check::Level(k)
+    Ok(k)
 }
 
 // All places free: nodes of c numbers begin at `start`.
@@ -40,8 +37,8 @@ fn begin(memory: &mut [u32], start: usize, c: usize)
     requires { (0 < c) × (start ≤ length memory.old) }
     ensures { memory.new ≡ freed start c memory.old }
 {
-    let e = start + c * memory::places_of(memory.len() - start, c);
-    memory::clear(&mut memory[start..e]);
+    let e = start + c * places_of(memory.len() - start, c);
+    clear(&mut memory[start..e]);
 }
 
 // The empty sets of all levels up to k, a node each: both children are the one below.
@@ -49,13 +46,10 @@ fn set_nodes(nodes: &mut [u32], k: u32)
     requires { (k ≤ 32) × (2 * k ≤ length nodes.old) }
     ensures { NodesWritten 2 0 k (new_sets k) nodes.old nodes.new }
 {
-    let mut i = 0;
-    while i < k {
-        let s = 2 * memory::as_index(i);
+    for i in 0..k {
+        let s = 2 * i as usize;
         let h = 2 * i;
-        nodes[s] = h;
-        nodes[s + 1] = h;
-        i += 1;
+        nodes[s..s + 2].copy_from_slice(&[h, h]);
     }
 }
 
@@ -68,16 +62,11 @@ fn level_nodes(nodes: &mut [u32], k: u32, p: u32, c: u32, q: u32, d: u32) -> u32
 {
     let mut same = c;
     let mut other = d;
-    let mut i = 0;
-    while i < k {
-        let s = 4 * memory::as_index(p + i);
-        nodes[s] = same;
-        nodes[s + 1] = other;
-        nodes[s + 2] = other;
-        nodes[s + 3] = same;
+    for i in 0..k {
+        let s = 4 * (p + i) as usize;
+        nodes[s..s + 4].copy_from_slice(&[same, other, other, same]);
         same = p + i + 2;
         other = q + i + 2;
-        i += 1;
     }
     same
 }
@@ -117,26 +106,30 @@ fn write_relations(relations: &mut [u32], k: u32) -> u32
 }
 
 // `SPPstore::new(k)`: the handle of the full relation, and the nodes that the new store holds.
-pub fn new(relations: &mut [u32], sets: &mut [u32], work: &mut [u32], k: u32) -> call_rules::Reply
+pub fn new(
+    relations: &mut [u32],
+    sets: &mut [u32],
+    work: &mut [u32],
+    k: u32,
+) -> Reply<Result<Answer, Refusal>>
     ensures { Meets (new_counted held_in (new_step k (memories relations.old sets.old)))
         (memories relations.new sets.new) work.old work.new (result.answer, result.added) }
 {
-    memory::clear(work);
-    let check = check(relations.len(), sets.len(), k);
-    match check {
-        call_rules::Check::No(r) => call_rules::Reply {
-            answer: call_rules::Answer::Declined(r),
-            added: call_rules::added::NodeCounts {
+    clear(work);
+    match check(relations.len(), sets.len(), k) {
+        Err(r) => Reply {
+            answer: Err(r),
+            added: NodeCounts {
                 relations: 0,
                 sets: 0,
             },
         },
-        call_rules::Check::Level(l) => {
+        Ok(l) => {
             write_sets(sets, l);
             let top = write_relations(relations, l);
-            call_rules::Reply {
-                answer: call_rules::Answer::Handle(top),
-                added: call_rules::added::held(relations, sets),
+            Reply {
+                answer: Ok(Answer::Handle(top)),
+                added: held(relations, sets),
             }
         }
     }

@@ -13,17 +13,17 @@ use Rattle.store_check.specs.Memory.{Memories, fields, decode, encode}
 use Rattle.store_check.specs.Valid.{is_store}
 use Rattle.call_rules.specs.OnMemories.{set_places, rel_places, on_store}
 use Rattle.call_rules.specs.Outcome.{Verdict, gives, runs, guard, unless_declined, outcome, finishes}
-use Rattle.call_rules.specs.declared.Check.TheVariants.{Level}
 use Rattle.call_rules.specs.declared.Refusal.TheVariants.{NotStore, TooLong, UsedUp}
 use Rattle.policy_text.specs.XForms.{x_forms}
-use Rattle.policy_text.specs.Answers.{Says}
+use Rattle.std.specs.Prelude.{Ok, Err}
+use Rattle.policy_text.specs.Answers.{Faulty, Says}
+use Rattle.policy_text.specs.Misreads.{Reading}
 use Rattle.policy_text.specs.Reading.{reading}
-use Rattle.policy_text.specs.declared.Reading.{Reading}
-use Rattle.policy_text.specs.declared.Reading.TheVariants.{Policy, NotPolicy, TooDeep, NoField, NotPredicate}
+use Rattle.policy_text.specs.declared.Fault.{Fault}
 use Rattle.policy_text.proofs.XLaws.{x_lawful, x_bounds}
 use Rattle.policy_text.proofs.Says.{says}
 use Rattle.policies.specs.Outcome.{refused, of_reading, is_short, text_verdict, policy_step, most_bytes}
-use Rattle.policies.specs.declared.PolicyAnswer.{PolicyAnswer}
+use Rattle.policies.specs.Answers.{PolicyAnswer}
 use Rattle.packet_store.specs.PackedPolicy.{offset}
 
 -- the outcome of any verdict has an offset of at most n
@@ -32,13 +32,17 @@ OffsetBy n (gives a) = offset a ≤ n
 OffsetBy n (runs p f) = (R : Ran) → offset (f R) ≤ n
 
 -- each fault is inside the text, or at its end
+fault_inside : (k : ℕ) (t : List ℕ) (f : Fault) (i : ℕ) → Faulty x_forms k t f i → i ≤ length t
+unfolding Faulty
+fault_inside k t Fault.NotPolicy i s = s.inside
+fault_inside k t Fault.TooDeep i s = let h = s.inside in omega arith
+fault_inside k t Fault.NoField i s = let h = s.inside in omega arith
+fault_inside k t Fault.NotPredicate i s = let h = s.inside in omega arith
+
 reading_inside : (k : ℕ) (t : List ℕ) (r : Reading) → Says x_forms k t r → OffsetBy (length t) (of_reading k t r)
 unfolding Says of_reading
-reading_inside k t Policy s = λ R. omega arith
-reading_inside k t (NotPolicy i) s = s.inside
-reading_inside k t (TooDeep i) s = let h = s.inside in omega arith
-reading_inside k t (NoField i) s = let h = s.inside in omega arith
-reading_inside k t (NotPredicate i) s = let h = s.inside in omega arith
+reading_inside k t (Ok u) s = λ R. omega arith
+reading_inside k t (Err m) s = fault_inside k t m.fault m.at s
 
 more : (n : ℕ) (v : Verdict PolicyAnswer) → n ≤ most_bytes → OffsetBy n v → OffsetBy most_bytes v
 more n (gives a) h o = omega arith
@@ -63,7 +67,7 @@ module _ (t : List ℕ) (M : Memories) where
   step_short : offset (policy_step t M).answer ≤ most_bytes
   unfolding policy_step on_store guard
   step_short = by_test (λ b. offset (finishes (refused UsedUp) (set_places M) (rel_places M)
-      (unless_declined refused (guard NotStore b (Level (fields M))) (λ k. text_verdict t k (decode M))) (decode M) M (λ S. encode (fields M) S M)).answer
+      (unless_declined refused (guard NotStore b (Ok (fields M))) (λ k. text_verdict t k (decode M))) (decode M) M (λ S. encode (fields M) S M)).answer
       ≤ most_bytes)
       (is_store M)
       (λ _. finishes_offset (set_places M) (rel_places M) (decode M) M (λ S. encode (fields M) S M) _ (verdict_short (fields M) t (decode M)))

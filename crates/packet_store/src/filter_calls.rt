@@ -4,20 +4,8 @@ ghost use Rattle.store.specs.Calls.{filter_call, step};
 ghost use Rattle.store.specs.declared.filter_calls.FilterCall.TheVariants.{Diagonal, Ifwd, Ibwd};
 ghost use Rattle.packing.specs.Returns.{AnswersAdded};
 
+use crate::packed_relations;
 use store::filter_calls::FilterCall;
-
-// Any of these calls, its reply packed.
-fn packed(
-    relations: &mut [u32],
-    sets: &[u32],
-    work: &mut [u32],
-    call: FilterCall,
-) -> packing::AddedReply
-    ensures { AnswersAdded (step (filter_call call)) (memories relations.old sets.now)
-        (memories relations.new sets.now) work.old work.new result }
-{
-    packing::pack_reply(store::filter_calls::filter_call(relations, sets, work, call))
-}
 
 // Each packet of p, to itself.
 #[unsafe(no_mangle)]
@@ -30,7 +18,7 @@ pub extern "C" fn packet_store_relation_diagonal(
     ensures { AnswersAdded (step (filter_call (Diagonal p))) (memories relations.old sets.now)
         (memories relations.new sets.now) work.old work.new result }
 {
-    packed(relations, sets, work, FilterCall::Diagonal(p))
+    packed_relations(relations, sets, work, FilterCall::Diagonal(p))
 }
 
 // Every packet, to each packet of p.
@@ -44,7 +32,7 @@ pub extern "C" fn packet_store_relation_ifwd(
     ensures { AnswersAdded (step (filter_call (Ifwd p))) (memories relations.old sets.now)
         (memories relations.new sets.now) work.old work.new result }
 {
-    packed(relations, sets, work, FilterCall::Ifwd(p))
+    packed_relations(relations, sets, work, FilterCall::Ifwd(p))
 }
 
 // Each packet of p, to every packet.
@@ -58,5 +46,5 @@ pub extern "C" fn packet_store_relation_ibwd(
     ensures { AnswersAdded (step (filter_call (Ibwd p))) (memories relations.old sets.now)
         (memories relations.new sets.now) work.old work.new result }
 {
-    packed(relations, sets, work, FilterCall::Ibwd(p))
+    packed_relations(relations, sets, work, FilterCall::Ibwd(p))
 }

@@ -4,20 +4,8 @@ ghost use Rattle.store.specs.Calls.{image_call, step};
 ghost use Rattle.store.specs.declared.image_calls.ImageCall.TheVariants.{Fwd, Bwd, Push, Pull};
 ghost use Rattle.packing.specs.Returns.{AnswersAdded};
 
+use crate::packed_sets;
 use store::image_calls::ImageCall;
-
-// Any of these calls, its reply packed.
-fn packed(
-    relations: &[u32],
-    sets: &mut [u32],
-    work: &mut [u32],
-    call: ImageCall,
-) -> packing::AddedReply
-    ensures { AnswersAdded (step (image_call call)) (memories relations.now sets.old)
-        (memories relations.now sets.new) work.old work.new result }
-{
-    packing::pack_reply(store::image_calls::image_call(relations, sets, work, call))
-}
 
 // The outputs of a.
 #[unsafe(no_mangle)]
@@ -30,7 +18,7 @@ pub extern "C" fn packet_store_relation_fwd(
     ensures { AnswersAdded (step (image_call (Fwd a))) (memories relations.now sets.old)
         (memories relations.now sets.new) work.old work.new result }
 {
-    packed(relations, sets, work, ImageCall::Fwd(a))
+    packed_sets(relations, sets, work, ImageCall::Fwd(a))
 }
 
 // The inputs of a.
@@ -44,7 +32,7 @@ pub extern "C" fn packet_store_relation_bwd(
     ensures { AnswersAdded (step (image_call (Bwd a))) (memories relations.now sets.old)
         (memories relations.now sets.new) work.old work.new result }
 {
-    packed(relations, sets, work, ImageCall::Bwd(a))
+    packed_sets(relations, sets, work, ImageCall::Bwd(a))
 }
 
 // What a relates the packets of p to.
@@ -59,7 +47,7 @@ pub extern "C" fn packet_store_relation_push(
     ensures { AnswersAdded (step (image_call (Push p a))) (memories relations.now sets.old)
         (memories relations.now sets.new) work.old work.new result }
 {
-    packed(relations, sets, work, ImageCall::Push(p, a))
+    packed_sets(relations, sets, work, ImageCall::Push(p, a))
 }
 
 // The packets that a relates to some packet of p.
@@ -74,5 +62,5 @@ pub extern "C" fn packet_store_relation_pull(
     ensures { AnswersAdded (step (image_call (Pull a p))) (memories relations.now sets.old)
         (memories relations.now sets.new) work.old work.new result }
 {
-    packed(relations, sets, work, ImageCall::Pull(a, p))
+    packed_sets(relations, sets, work, ImageCall::Pull(a, p))
 }

@@ -2,41 +2,31 @@
 ghost use Rattle.std.specs.Prelude.{◌≡◌, ◌≤◌};
 ghost use Rattle.policies.specs.Outcome.{most_bytes};
 ghost use Rattle.store_check.specs.Memory.{memories};
-ghost use Rattle.policies.specs.declared.PolicyAnswer.TheVariants.{Declined};
 ghost use Rattle.packet_store.specs.PackedPolicy.{offset, packed_policy, packed_policy_reply, AnswersPolicy};
 
-use policies::{PolicyAnswer, PolicyRefusal};
+use call_rules::Reply;
+use packing::AddedReply;
+use policies::PolicyRefusal;
 
-// The number of a refusal in the high half, its offset in the low half.
-fn pack_refusal(r: PolicyRefusal) -> u64
-    requires { offset (Declined r) ≤ most_bytes }
-    ensures { result ≡ packed_policy (Declined r) }
-{
-    match r {
-        PolicyRefusal::At(f, i) => policies::fault_number(f) as u64 * 0x1_0000_0000 + i as u64,
-        PolicyRefusal::Store(s) => call_rules::number_of(s) as u64 * 0x1_0000_0000,
-    }
-}
-
-// The handle, or the refusal.
-fn pack(a: PolicyAnswer) -> u64
+// The number of the refusal in the high half, or 0; the handle or the offset in the low half, or 0.
+fn pack(a: Result<u32, PolicyRefusal>) -> u64
     requires { offset a ≤ most_bytes }
     ensures { result ≡ packed_policy a }
 {
     match a {
-        PolicyAnswer::Handle(h) => h as u64,
-        PolicyAnswer::Declined(r) => pack_refusal(r),
+        Ok(h) => u64::from(h),
+        Err(PolicyRefusal::At(misread)) => u64::from(u32::from(misread.fault)) * 0x1_0000_0000
+            + misread.at as u64,
+        Err(PolicyRefusal::Store(r)) => u64::from(u32::from(r)) * 0x1_0000_0000,
     }
 }
 
 // The answer packed, and the nodes added.
-fn pack_reply(r: policies::PolicyReply) -> packing::AddedReply
+fn pack_reply(r: Reply<Result<u32, PolicyRefusal>>) -> AddedReply
     requires { offset r.answer ≤ most_bytes }
     ensures { result ≡ packed_policy_reply (r.answer, r.added) }
 {
-    let answer = r.answer;
-    let added = r.added;
-    packing::with_added(pack(answer), added)
+    packing::with_added(pack(r.answer), r.added)
 }
 
 // The relation that a policy text means.
@@ -46,7 +36,7 @@ pub extern "C" fn packet_store_policy(
     sets: &[u32],
     work: &mut [u32],
     text: &[u8],
-) -> packing::AddedReply
+) -> AddedReply
     ensures { AnswersPolicy text.now (memories relations.old sets.now)
         (memories relations.new sets.now) work.old work.new result }
 {

@@ -5,20 +5,8 @@ ghost use Rattle.store.specs.declared.relation_calls.RelationCall.TheVariants.{M
 ghost use Rattle.store.specs.declared.relation_calls.RelationCall.TheVariants.{Sequence, Star, Flip, Test, Assign, NaiveForward, Backward};
 ghost use Rattle.packing.specs.Returns.{AnswersAdded};
 
+use crate::packed_relations;
 use store::relation_calls::RelationCall;
-
-// Any of these calls, its reply packed.
-fn packed(
-    relations: &mut [u32],
-    sets: &[u32],
-    work: &mut [u32],
-    call: RelationCall,
-) -> packing::AddedReply
-    ensures { AnswersAdded (step (relation_call call)) (memories relations.old sets.now)
-        (memories relations.new sets.now) work.old work.new result }
-{
-    packing::pack_reply(store::relation_calls::relation_call(relations, sets, work, call))
-}
 
 // The relation with these children: the first digit is the input's bit, the second the output's.
 #[unsafe(no_mangle)]
@@ -34,7 +22,7 @@ pub extern "C" fn packet_store_relation_mk(
     ensures { AnswersAdded (step (relation_call (Mk x00 x01 x10 x11))) (memories relations.old sets.now)
         (memories relations.new sets.now) work.old work.new result }
 {
-    packed(relations, sets, work, RelationCall::Mk(x00, x01, x10, x11))
+    packed_relations(relations, sets, work, RelationCall::Mk(x00, x01, x10, x11))
 }
 
 // The empty relation of level k.
@@ -47,7 +35,7 @@ pub extern "C" fn packet_store_relation_zero(
     ensures { AnswersAdded (step (relation_call Zero)) (memories relations.old sets.now)
         (memories relations.new sets.now) work.old work.new result }
 {
-    packed(relations, sets, work, RelationCall::Zero)
+    packed_relations(relations, sets, work, RelationCall::Zero)
 }
 
 // The identity of level k.
@@ -60,7 +48,7 @@ pub extern "C" fn packet_store_relation_one(
     ensures { AnswersAdded (step (relation_call One)) (memories relations.old sets.now)
         (memories relations.new sets.now) work.old work.new result }
 {
-    packed(relations, sets, work, RelationCall::One)
+    packed_relations(relations, sets, work, RelationCall::One)
 }
 
 // The full relation of level k.
@@ -73,7 +61,7 @@ pub extern "C" fn packet_store_relation_top(
     ensures { AnswersAdded (step (relation_call Top)) (memories relations.old sets.now)
         (memories relations.new sets.now) work.old work.new result }
 {
-    packed(relations, sets, work, RelationCall::Top)
+    packed_relations(relations, sets, work, RelationCall::Top)
 }
 
 // The pairs in a or in b.
@@ -88,7 +76,7 @@ pub extern "C" fn packet_store_relation_union(
     ensures { AnswersAdded (step (relation_call (Union a b))) (memories relations.old sets.now)
         (memories relations.new sets.now) work.old work.new result }
 {
-    packed(relations, sets, work, RelationCall::Union(a, b))
+    packed_relations(relations, sets, work, RelationCall::Union(a, b))
 }
 
 // The pairs in a and in b.
@@ -103,7 +91,7 @@ pub extern "C" fn packet_store_relation_intersect(
     ensures { AnswersAdded (step (relation_call (Intersect a b))) (memories relations.old sets.now)
         (memories relations.new sets.now) work.old work.new result }
 {
-    packed(relations, sets, work, RelationCall::Intersect(a, b))
+    packed_relations(relations, sets, work, RelationCall::Intersect(a, b))
 }
 
 // The pairs in exactly one of a and b.
@@ -118,7 +106,7 @@ pub extern "C" fn packet_store_relation_xor(
     ensures { AnswersAdded (step (relation_call (Xor a b))) (memories relations.old sets.now)
         (memories relations.new sets.now) work.old work.new result }
 {
-    packed(relations, sets, work, RelationCall::Xor(a, b))
+    packed_relations(relations, sets, work, RelationCall::Xor(a, b))
 }
 
 // The pairs in a and not in b.
@@ -133,7 +121,7 @@ pub extern "C" fn packet_store_relation_difference(
     ensures { AnswersAdded (step (relation_call (Difference a b))) (memories relations.old sets.now)
         (memories relations.new sets.now) work.old work.new result }
 {
-    packed(relations, sets, work, RelationCall::Difference(a, b))
+    packed_relations(relations, sets, work, RelationCall::Difference(a, b))
 }
 
 // The pairs that are not in a.
@@ -147,7 +135,7 @@ pub extern "C" fn packet_store_relation_complement(
     ensures { AnswersAdded (step (relation_call (Complement a))) (memories relations.old sets.now)
         (memories relations.new sets.now) work.old work.new result }
 {
-    packed(relations, sets, work, RelationCall::Complement(a))
+    packed_relations(relations, sets, work, RelationCall::Complement(a))
 }
 
 // The pairs that a and then b relate.
@@ -162,7 +150,7 @@ pub extern "C" fn packet_store_relation_sequence(
     ensures { AnswersAdded (step (relation_call (Sequence a b))) (memories relations.old sets.now)
         (memories relations.new sets.now) work.old work.new result }
 {
-    packed(relations, sets, work, RelationCall::Sequence(a, b))
+    packed_relations(relations, sets, work, RelationCall::Sequence(a, b))
 }
 
 // The pairs that any number of steps of a relates, none included.
@@ -176,7 +164,7 @@ pub extern "C" fn packet_store_relation_star(
     ensures { AnswersAdded (step (relation_call (Star a))) (memories relations.old sets.now)
         (memories relations.new sets.now) work.old work.new result }
 {
-    packed(relations, sets, work, RelationCall::Star(a))
+    packed_relations(relations, sets, work, RelationCall::Star(a))
 }
 
 // The pairs of a, each turned around.
@@ -190,7 +178,7 @@ pub extern "C" fn packet_store_relation_flip(
     ensures { AnswersAdded (step (relation_call (Flip a))) (memories relations.old sets.now)
         (memories relations.new sets.now) work.old work.new result }
 {
-    packed(relations, sets, work, RelationCall::Flip(a))
+    packed_relations(relations, sets, work, RelationCall::Flip(a))
 }
 
 // Each packet whose field var has this value, to itself.
@@ -205,7 +193,7 @@ pub extern "C" fn packet_store_relation_test(
     ensures { AnswersAdded (step (relation_call (Test var value))) (memories relations.old sets.now)
         (memories relations.new sets.now) work.old work.new result }
 {
-    packed(relations, sets, work, RelationCall::Test(var, value))
+    packed_relations(relations, sets, work, RelationCall::Test(var, value))
 }
 
 // Each packet, to itself with this value in field var.
@@ -220,7 +208,7 @@ pub extern "C" fn packet_store_relation_assign(
     ensures { AnswersAdded (step (relation_call (Assign var value))) (memories relations.old sets.now)
         (memories relations.new sets.now) work.old work.new result }
 {
-    packed(relations, sets, work, RelationCall::Assign(var, value))
+    packed_relations(relations, sets, work, RelationCall::Assign(var, value))
 }
 
 // Every packet, to each output of a.
@@ -234,7 +222,7 @@ pub extern "C" fn packet_store_relation_naive_forward(
     ensures { AnswersAdded (step (relation_call (NaiveForward a))) (memories relations.old sets.now)
         (memories relations.new sets.now) work.old work.new result }
 {
-    packed(relations, sets, work, RelationCall::NaiveForward(a))
+    packed_relations(relations, sets, work, RelationCall::NaiveForward(a))
 }
 
 // Each packet that a relates to some, to every packet.
@@ -248,5 +236,5 @@ pub extern "C" fn packet_store_relation_backward(
     ensures { AnswersAdded (step (relation_call (Backward a))) (memories relations.old sets.now)
         (memories relations.new sets.now) work.old work.new result }
 {
-    packed(relations, sets, work, RelationCall::Backward(a))
+    packed_relations(relations, sets, work, RelationCall::Backward(a))
 }

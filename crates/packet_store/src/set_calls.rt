@@ -4,20 +4,8 @@ ghost use Rattle.store.specs.Calls.{set_call, step};
 ghost use Rattle.store.specs.declared.set_calls.SetCall.TheVariants.{Mk, Zero, One, Union, Intersect, Xor, Difference, Test, Ifelse};
 ghost use Rattle.packing.specs.Returns.{AnswersAdded};
 
+use crate::packed_sets;
 use store::set_calls::SetCall;
-
-// Any of these calls, its reply packed.
-fn packed(
-    relations: &[u32],
-    sets: &mut [u32],
-    work: &mut [u32],
-    call: SetCall,
-) -> packing::AddedReply
-    ensures { AnswersAdded (step (set_call call)) (memories relations.now sets.old)
-        (memories relations.now sets.new) work.old work.new result }
-{
-    packing::pack_reply(store::set_calls::set_call(relations, sets, work, call))
-}
 
 // The set with these children.
 #[unsafe(no_mangle)]
@@ -31,7 +19,7 @@ pub extern "C" fn packet_store_set_mk(
     ensures { AnswersAdded (step (set_call (Mk x0 x1))) (memories relations.now sets.old)
         (memories relations.now sets.new) work.old work.new result }
 {
-    packed(relations, sets, work, SetCall::Mk(x0, x1))
+    packed_sets(relations, sets, work, SetCall::Mk(x0, x1))
 }
 
 // The empty set of level k.
@@ -44,7 +32,7 @@ pub extern "C" fn packet_store_set_zero(
     ensures { AnswersAdded (step (set_call Zero)) (memories relations.now sets.old)
         (memories relations.now sets.new) work.old work.new result }
 {
-    packed(relations, sets, work, SetCall::Zero)
+    packed_sets(relations, sets, work, SetCall::Zero)
 }
 
 // The full set of level k.
@@ -57,7 +45,7 @@ pub extern "C" fn packet_store_set_one(
     ensures { AnswersAdded (step (set_call One)) (memories relations.now sets.old)
         (memories relations.now sets.new) work.old work.new result }
 {
-    packed(relations, sets, work, SetCall::One)
+    packed_sets(relations, sets, work, SetCall::One)
 }
 
 // The packets in a or in b.
@@ -72,7 +60,7 @@ pub extern "C" fn packet_store_set_union(
     ensures { AnswersAdded (step (set_call (Union a b))) (memories relations.now sets.old)
         (memories relations.now sets.new) work.old work.new result }
 {
-    packed(relations, sets, work, SetCall::Union(a, b))
+    packed_sets(relations, sets, work, SetCall::Union(a, b))
 }
 
 // The packets in a and in b.
@@ -87,7 +75,7 @@ pub extern "C" fn packet_store_set_intersect(
     ensures { AnswersAdded (step (set_call (Intersect a b))) (memories relations.now sets.old)
         (memories relations.now sets.new) work.old work.new result }
 {
-    packed(relations, sets, work, SetCall::Intersect(a, b))
+    packed_sets(relations, sets, work, SetCall::Intersect(a, b))
 }
 
 // The packets in exactly one of a and b.
@@ -102,7 +90,7 @@ pub extern "C" fn packet_store_set_xor(
     ensures { AnswersAdded (step (set_call (Xor a b))) (memories relations.now sets.old)
         (memories relations.now sets.new) work.old work.new result }
 {
-    packed(relations, sets, work, SetCall::Xor(a, b))
+    packed_sets(relations, sets, work, SetCall::Xor(a, b))
 }
 
 // The packets in a and not in b.
@@ -117,7 +105,7 @@ pub extern "C" fn packet_store_set_difference(
     ensures { AnswersAdded (step (set_call (Difference a b))) (memories relations.now sets.old)
         (memories relations.now sets.new) work.old work.new result }
 {
-    packed(relations, sets, work, SetCall::Difference(a, b))
+    packed_sets(relations, sets, work, SetCall::Difference(a, b))
 }
 
 // The packets whose field var has this value.
@@ -132,7 +120,7 @@ pub extern "C" fn packet_store_set_test(
     ensures { AnswersAdded (step (set_call (Test var value))) (memories relations.now sets.old)
         (memories relations.now sets.new) work.old work.new result }
 {
-    packed(relations, sets, work, SetCall::Test(var, value))
+    packed_sets(relations, sets, work, SetCall::Test(var, value))
 }
 
 // The packets of t where field var is 1, those of e where it is 0.
@@ -148,5 +136,5 @@ pub extern "C" fn packet_store_set_ifelse(
     ensures { AnswersAdded (step (set_call (Ifelse var t e))) (memories relations.now sets.old)
         (memories relations.now sets.new) work.old work.new result }
 {
-    packed(relations, sets, work, SetCall::Ifelse(var, t, e))
+    packed_sets(relations, sets, work, SetCall::Ifelse(var, t, e))
 }

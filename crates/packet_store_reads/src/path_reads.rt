@@ -4,15 +4,8 @@ ghost use Rattle.store.specs.Calls.{path_read, step};
 ghost use Rattle.store.specs.declared.path_reads.PathRead.TheVariants.{HasImage, HasPath, FirstPath};
 ghost use Rattle.packing.specs.Returns.{Answers, AnswersPair};
 
-use store::path_reads::PathRead;
-
-// Any of these calls, its answer packed.
-fn packed(relations: &[u32], sets: &[u32], work: &mut [u32], call: PathRead) -> u64
-    ensures { Answers (step (path_read call) (memories relations.now sets.now))
-        (memories relations.now sets.now) work.old work.new result }
-{
-    packing::pack(store::path_reads::path_read(relations, sets, work, call))
-}
+use crate::packed_read;
+use store::path_reads::{PathRead, path_read};
 
 // Whether a relates some packet of p to any.
 #[unsafe(no_mangle)]
@@ -26,7 +19,7 @@ pub extern "C" fn packet_store_relation_has_image(
     ensures { Answers (step (path_read (HasImage p a)) (memories relations.now sets.now))
         (memories relations.now sets.now) work.old work.new result }
 {
-    packed(relations, sets, work, PathRead::HasImage(p, a))
+    packed_read(relations, sets, work, PathRead::HasImage(p, a))
 }
 
 // Whether a relates some packet of p to some packet of q.
@@ -42,7 +35,7 @@ pub extern "C" fn packet_store_relation_has_path(
     ensures { Answers (step (path_read (HasPath p a q)) (memories relations.now sets.now))
         (memories relations.now sets.now) work.old work.new result }
 {
-    packed(relations, sets, work, PathRead::HasPath(p, a, q))
+    packed_read(relations, sets, work, PathRead::HasPath(p, a, q))
 }
 
 // The first pair from a packet of p by a to a packet of q.
@@ -58,10 +51,5 @@ pub extern "C" fn packet_store_relation_first_path(
     ensures { AnswersPair (step (path_read (FirstPath p a q)) (memories relations.now sets.now))
         (memories relations.now sets.now) work.old work.new result }
 {
-    packing::pack_pair(store::path_reads::path_read(
-        relations,
-        sets,
-        work,
-        PathRead::FirstPath(p, a, q),
-    ))
+    packing::pack_pair(path_read(relations, sets, work, PathRead::FirstPath(p, a, q)))
 }

@@ -6,15 +6,8 @@ ghost use Rattle.packing.specs.Packed.{filled_relation};
 ghost use Rattle.packing.specs.Returns.{Answers};
 ghost use Rattle.packet_store_reads.specs.Lent.{AnswersLent};
 
-use store::relation_reads::RelationRead;
-
-// Any of these calls, its answer packed.
-fn packed(relations: &[u32], sets: &[u32], work: &mut [u32], call: RelationRead) -> u64
-    ensures { Answers (step (relation_read call) (memories relations.now sets.now))
-        (memories relations.now sets.now) work.old work.new result }
-{
-    packing::pack(store::relation_reads::relation_read(relations, sets, work, call))
-}
+use crate::packed_read;
+use store::relation_reads::{RelationRead, relation_read};
 
 // The children of a, written where it has them.
 #[unsafe(no_mangle)]
@@ -28,9 +21,9 @@ pub extern "C" fn packet_store_relation_get(
     ensures { AnswersLent filled_relation (relation_read (Get a)) (memories relations.now sets.now)
         work.old work.new children.old children.new result }
 {
-    let r = store::relation_reads::relation_read(relations, sets, work, RelationRead::Get(a));
-    packing::fill_relation(r, children);
-    packing::pack(r)
+    let answer = relation_read(relations, sets, work, RelationRead::Get(a));
+    packing::fill_relation(answer, children);
+    packing::pack(answer)
 }
 
 // Whether a relates nothing.
@@ -44,7 +37,7 @@ pub extern "C" fn packet_store_relation_is_zero(
     ensures { Answers (step (relation_read (IsZero a)) (memories relations.now sets.now))
         (memories relations.now sets.now) work.old work.new result }
 {
-    packed(relations, sets, work, RelationRead::IsZero(a))
+    packed_read(relations, sets, work, RelationRead::IsZero(a))
 }
 
 // Whether a relates this input to this output.
@@ -60,7 +53,7 @@ pub extern "C" fn packet_store_relation_relates(
     ensures { Answers (step (relation_read (Relates a input output)) (memories relations.now sets.now))
         (memories relations.now sets.now) work.old work.new result }
 {
-    packed(
+    packed_read(
         relations,
         sets,
         work,

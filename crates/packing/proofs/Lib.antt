@@ -1,3 +1,1 @@
 pub mod Answering
-pub mod Halves
-pub mod Pairs

@@ -4,19 +4,21 @@
 ghost use Rattle.std.specs.Prelude.{◌≡◌};
 ghost use Rattle.packing.specs.Packed.{packed, packed_pair, with_added, packed_reply, filled_set, filled_relation};
 
+use call_rules::added::NodeCounts;
+use call_rules::{Answer, Refusal, Reply};
+
 // The number of the refusal in the high half, or 0; the first value in the low half, or 0.
-pub fn pack(a: call_rules::Answer) -> u64
+pub fn pack(a: Result<Answer, Refusal>) -> u64
     ensures { result ≡ packed a }
 {
     match a {
-        call_rules::Answer::Handle(h) => h as u64,
-        call_rules::Answer::Truth(b) => if b { 1 } else { 0 },
-        call_rules::Answer::SetNode(x0, _) => x0 as u64,
-        call_rules::Answer::RelationNode(x00, _, _, _) => x00 as u64,
-        call_rules::Answer::Declined(r) => call_rules::number_of(r) as u64 * 0x1_0000_0000,
-        call_rules::Answer::Pair(_, _) => 1,
-        call_rules::Answer::Nothing => 0,
-        call_rules::Answer::Member(_) => 1,
+        Ok(Answer::Handle(h)) => u64::from(h),
+        Ok(Answer::Truth(b)) => u64::from(b),
+        Ok(Answer::SetNode(x0, _)) => u64::from(x0),
+        Ok(Answer::RelationNode(x00, _, _, _)) => u64::from(x00),
+        Ok(Answer::Pair(_, _) | Answer::Member(_)) => 1,
+        Ok(Answer::Nothing) => 0,
+        Err(r) => u64::from(u32::from(r)) * 0x1_0000_0000,
     }
 }
 
@@ -30,23 +32,21 @@ pub struct AddedReply {
 }
 
 // A packed answer with the nodes that its call added.
-pub fn with_added(answer: u64, added: call_rules::added::NodeCounts) -> AddedReply
+pub fn with_added(answer: u64, added: NodeCounts) -> AddedReply
     ensures { result ≡ with_added answer added }
 {
     AddedReply {
-        answer: answer,
+        answer,
         relations: added.relations,
         sets: added.sets,
     }
 }
 
 // The answer packed, and the nodes added.
-pub fn pack_reply(r: call_rules::Reply) -> AddedReply
+pub fn pack_reply(r: Reply<Result<Answer, Refusal>>) -> AddedReply
     ensures { result ≡ packed_reply (r.answer, r.added) }
 {
-    let answer = r.answer;
-    let added = r.added;
-    with_added(pack(answer), added)
+    with_added(pack(r.answer), r.added)
 }
 
 // An answer with the pair that it has, as C takes it.
@@ -59,60 +59,39 @@ pub struct PairReply {
 }
 
 // The answer packed, and the pair, or 0 and 0.
-pub fn pack_pair(a: call_rules::Answer) -> PairReply
+pub fn pack_pair(a: Result<Answer, Refusal>) -> PairReply
     ensures { result ≡ packed_pair a }
 {
     let answer = pack(a);
-    if let call_rules::Answer::Pair(x, y) = a {
+    if let Ok(Answer::Pair(x, y)) = a {
         return PairReply {
-            answer: answer,
+            answer,
             input: x,
             output: y,
         };
     }
     PairReply {
-        answer: answer,
+        answer,
         input: 0,
         output: 0,
     }
 }
 
-// The children of a set, where the answer has them; else the two numbers stay.
-pub fn fill_set(a: call_rules::Answer, children: &mut [u32; 2])
+// The children of a set, where the answer has them; else the two numbers stay. It and the next differ in the constructor and in C's array: no plainer as one,
+// which would be handed both.
+pub fn fill_set(a: Result<Answer, Refusal>, children: &mut [u32; 2])
     ensures { children.new ≡ filled_set a children.old }
 {
-    match a {
-        call_rules::Answer::Handle(_) => {}
-        call_rules::Answer::Truth(_) => {}
-        call_rules::Answer::SetNode(x0, x1) => {
-            children[0] = x0;
-            children[1] = x1;
-        }
-        call_rules::Answer::RelationNode(_, _, _, _) => {}
-        call_rules::Answer::Declined(_) => {}
-        call_rules::Answer::Pair(_, _) => {}
-        call_rules::Answer::Nothing => {}
-        call_rules::Answer::Member(_) => {}
+    if let Ok(Answer::SetNode(x0, x1)) = a {
+        *children = [x0, x1];
     }
 }
 
 // The children of a relation, where the answer has them; else the four numbers stay.
-pub fn fill_relation(a: call_rules::Answer, children: &mut [u32; 4])
+pub fn fill_relation(a: Result<Answer, Refusal>, children: &mut [u32; 4])
     ensures { children.new ≡ filled_relation a children.old }
 {
-    match a {
-        call_rules::Answer::Handle(_) => {}
-        call_rules::Answer::Truth(_) => {}
-        call_rules::Answer::SetNode(_, _) => {}
-        call_rules::Answer::RelationNode(x00, x01, x10, x11) => {
-            children[0] = x00;
-            children[1] = x01;
-            children[2] = x10;
-            children[3] = x11;
-        }
-        call_rules::Answer::Declined(_) => {}
-        call_rules::Answer::Pair(_, _) => {}
-        call_rules::Answer::Nothing => {}
-        call_rules::Answer::Member(_) => {}
+    if let Ok(Answer::RelationNode(x00, x01, x10, x11)) = a {
+        *children = [x00, x01, x10, x11];
     }
 }

@@ -9,11 +9,10 @@ use Rattle.call_rules.specs.Outcome.{gives, Outcome}
 use Rattle.policy_text.specs.XForms.{x_forms}
 use Rattle.policy_text.specs.Answers.{reading_refusal, reading_values}
 use Rattle.policy_text.specs.Reading.{reading}
-use Rattle.policy_text.specs.declared.Reading.{Reading}
-use Rattle.policy_text.specs.declared.Reading.TheVariants.{Policy, NotPolicy, TooDeep, NoField, NotPredicate}
-use Rattle.policies.specs.Answers.{policy_refusal, policy_values}
+use Rattle.policy_text.specs.Misreads.{Reading}
+use Rattle.std.specs.Prelude.{Ok, Err}
+use Rattle.policies.specs.Answers.{PolicyAnswer, policy_refusal, policy_values}
 use Rattle.policies.specs.Outcome.{of_reading, is_short, policy_step}
-use Rattle.policies.specs.declared.PolicyAnswer.{PolicyAnswer}
 use Rattle.policies.proofs.BuiltTexts.{short_verdict, policy_refused}
 
 -- the answer a has the number and the values of the reading r
@@ -23,11 +22,8 @@ pub record Carries (r : Reading) (a : PolicyAnswer) : Type 0 where
 
 pub refusal_known : (k : ℕ) (t : List ℕ) (r : Reading) → ¬ (reading_refusal r ≡ 0) → (a : PolicyAnswer) × (of_reading k t r ≡ gives a) × Carries r a
 unfolding of_reading
-refusal_known k t Policy n = absurd (n refl)
-refusal_known k t (NotPolicy i) n = (_, refl, record { refusal = refl; values = refl })
-refusal_known k t (TooDeep i) n = (_, refl, record { refusal = refl; values = refl })
-refusal_known k t (NoField i) n = (_, refl, record { refusal = refl; values = refl })
-refusal_known k t (NotPredicate i) n = (_, refl, record { refusal = refl; values = refl })
+refusal_known k t (Ok u) n = absurd (n refl)
+refusal_known k t (Err m) n = (_, refl, record { refusal = refl; values = refl })
 
 pub reading_known : (t : List ℕ) (M : Memories) → IsStore M → is_short t ≡ true → (r : Reading) → reading x_forms (fields M) t ≡ r → ¬ (reading_refusal r ≡ 0)
     → Carries r (policy_step t M).answer × ((policy_step t M).state ≡ M)

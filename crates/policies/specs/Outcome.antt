@@ -1,5 +1,5 @@
 -- The outcome of a policy call, in document 01's order of refusals.
-use Rattle.std.specs.Prelude.{Bool, List, ℕ, leb, length}
+use Rattle.std.specs.Prelude.{Bool, List, ℕ, leb, length, Ok, Err}
 use Rattle.model.specs.Policies.{policy_program}
 use Rattle.model.specs.Programs.{Ran}
 use Rattle.model.specs.Store.{Store as Nodes, pick}
@@ -11,27 +11,21 @@ use Rattle.call_rules.specs.declared.Refusal.TheVariants.{TooLong}
 use Rattle.policy_text.specs.XForms.{x_forms}
 use Rattle.policy_text.specs.Answers.{tree}
 use Rattle.policy_text.specs.Reading.{reading}
-use Rattle.policy_text.specs.declared.Reading.{Reading}
-use Rattle.policy_text.specs.declared.Reading.TheVariants as read
-use Rattle.policies.specs.declared.Fault.TheVariants.{NotPolicy, NotPredicate, TooDeep, NoField}
-use Rattle.policies.specs.declared.PolicyAnswer.{PolicyAnswer}
-use Rattle.policies.specs.declared.PolicyAnswer.TheVariants.{Handle, Declined}
+use Rattle.policy_text.specs.Misreads.{Reading}
+use Rattle.policies.specs.Answers.{PolicyAnswer}
 use Rattle.policies.specs.declared.PolicyRefusal.TheVariants.{At, Store}
 
 -- a refusal of the store as a policy's answer, and the answer of a program
 abbrev pub refused : Refusal → PolicyAnswer
-refused r = Declined (Store r)
+refused r = Err (Store r)
 
 abbrev pub built_handle : Ran → PolicyAnswer
-built_handle R = Handle R.value
+built_handle R = Ok R.value
 
 -- 7, 9, 5 and 8 at their places; a text within the rules runs its policy's program
 unfoldable pub of_reading : ℕ → List ℕ → Reading → Verdict PolicyAnswer
-of_reading k t read.Policy = runs (policy_program k (tree x_forms t)) built_handle
-of_reading k t (read.NotPolicy i) = gives (Declined (At NotPolicy i))
-of_reading k t (read.TooDeep i) = gives (Declined (At TooDeep i))
-of_reading k t (read.NoField i) = gives (Declined (At NoField i))
-of_reading k t (read.NotPredicate i) = gives (Declined (At NotPredicate i))
+of_reading k t (Ok u) = runs (policy_program k (tree x_forms t)) built_handle
+of_reading k t (Err m) = gives (Err (At m))
 
 -- 01: "A policy is at most 4,096 bytes"
 abbrev pub most_bytes : ℕ

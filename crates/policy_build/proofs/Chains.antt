@@ -1,4 +1,4 @@
--- Sums, terms, products and starred items as a loop reads them: a first item, then steps from the left, each after a byte that joins it.
+-- Starred items and the ranks as a loop reads them: a first item, then steps from the left, each after a byte that joins it.
 use mathlib.Core.Path.{◌≡◌, refl, sym, ap, ◌∙◌, subst}
 use mathlib.Core.List.{List, [], ◌∷◌, ◌++◌, append_assoc, append-nil}
 use mathlib.Core.Bool.{true}
@@ -6,10 +6,12 @@ use Prim.Native.Nat.{ℕ, ◌+◌}
 use lib.ListN.{get_or, drop}
 use Rattle.model.specs.Policies.{Policy, plus, mixes, seq, stars}
 use Rattle.policy_text.specs.Lexicon.{Lexicon}
-use Rattle.policy_text.specs.Grammar.{Atom, Starred, Product, Term, Sum, s_atom, s_star, p_one, p_seq, t_one, t_mix}
-use Rattle.policy_text.specs.Grammar.{u_one, u_plus}
-use Rattle.policy_text.specs.Machine.{does_mix, mix_of}
+use Rattle.policy_text.specs.Grammar.{Atom, Starred, Product, Term, Sum, s_atom, s_star, p_one, p_seq, t_one, t_mix, u_one, u_plus}
+use Rattle.policy_text.specs.Machine.{mix_of}
+use Rattle.policy_text.specs.Posts.{does_join}
+use Rattle.policy_text.specs.declared.Rank.{Rank}
 use Rattle.policy_text.proofs.MixSigns.{sign_is}
+use Rattle.policy_build.specs.Building.{part_of, ranked}
 use Rattle.policy_build.proofs.Suffixes.{first_of, next}
 
 -- how a byte and then u make one policy of another
@@ -51,50 +53,49 @@ module _ {Item : List ℕ → Policy → Type 0} {Joins : ℕ → Type 0} {St : 
     whole = ap (λ x. x ++ (b ∷ v)) a.whole ∙ append_assoc a.first a.steps (b ∷ v);
   }
 
--- the bytes that join in each rank
+-- the bytes that join: stars to an item, the parts of a rank
 abbrev pub star_joins : ℕ → Type 0
 star_joins b = b ≡ 42
 
-abbrev pub seq_joins : ℕ → Type 0
-seq_joins b = b ≡ 59
+abbrev pub rank_joins : Rank → ℕ → Type 0
+rank_joins r b = does_join r b ≡ true
 
-abbrev pub mix_joins : ℕ → Type 0
-mix_joins b = does_mix b ≡ true
-
-abbrev pub plus_joins : ℕ → Type 0
-plus_joins b = b ≡ 43
-
--- the steps of the ranks: a star; an item of the rank below, joined as the byte says
+-- the steps: a star; a part of the rank, joined as the byte says
 abbrev pub Starring : ChainStep
 Starring b q u p = (u ≡ []) × (p ≡ stars q)
 
 abbrev pub Joining : (ℕ → Policy → Policy → Policy) → (List ℕ → Policy → Type 0) → ChainStep
 Joining join Item b q u p = (r : Policy) × Item u r × (p ≡ join b q r)
 
-abbrev pub seq_by : ℕ → Policy → Policy → Policy
-seq_by b = seq
-
-abbrev pub mix_by : ℕ → Policy → Policy → Policy
-mix_by b = mixes (mix_of b)
-
-abbrev pub plus_by : ℕ → Policy → Policy → Policy
-plus_by b = plus
+abbrev pub join_by : Rank → ℕ → Policy → Policy → Policy
+join_by Rank.Product b = seq
+join_by Rank.Term b = mixes (mix_of b)
+join_by Rank.Sum b = plus
 
 pub starred_begun : {X : Lexicon} {d : ℕ} {u : List ℕ} {p : Policy} → Starred X d u p → ChainBegun (Atom X d) star_joins Starring u p
 starred_begun (s_atom x) = single x
 starred_begun (s_star x) = longer (starred_begun x) refl (refl, refl)
 
-pub product_begun : {X : Lexicon} {d : ℕ} {u : List ℕ} {p : Policy} → Product X d u p → ChainBegun (Starred X d) seq_joins (Joining seq_by (Starred X d)) u p
+-- a part of a rank, and a chain of its parts from it
+abbrev pub RankBegun : Lexicon → ℕ → Rank → List ℕ → Policy → Type 0
+RankBegun X d r = ChainBegun (part_of X r d) (rank_joins r) (Joining (join_by r) (part_of X r d))
+
+product_begun : {X : Lexicon} {d : ℕ} {u : List ℕ} {p : Policy} → Product X d u p → RankBegun X d Rank.Product u p
 product_begun (p_one x) = single x
 product_begun (p_seq x y) = longer (product_begun x) refl (_, y, refl)
 
-pub term_begun : {X : Lexicon} {d : ℕ} {u : List ℕ} {p : Policy} → Term X d u p → ChainBegun (Product X d) mix_joins (Joining mix_by (Product X d)) u p
+term_begun : {X : Lexicon} {d : ℕ} {u : List ℕ} {p : Policy} → Term X d u p → RankBegun X d Rank.Term u p
 term_begun (t_one x) = single x
 term_begun (t_mix {p = p} {q = q} g x y) = let j = sign_is g in longer (term_begun x) j.0 (_, y, ap (λ m. mixes m p q) j.1)
 
-pub sum_begun : {X : Lexicon} {d : ℕ} {u : List ℕ} {p : Policy} → Sum X d u p → ChainBegun (Term X d) plus_joins (Joining plus_by (Term X d)) u p
+sum_begun : {X : Lexicon} {d : ℕ} {u : List ℕ} {p : Policy} → Sum X d u p → RankBegun X d Rank.Sum u p
 sum_begun (u_one x) = single x
 sum_begun (u_plus x y) = longer (sum_begun x) refl (_, y, refl)
+
+pub rank_begun : (X : Lexicon) (d : ℕ) (r : Rank) {u : List ℕ} {p : Policy} → ranked X r d u p → RankBegun X d r u p
+rank_begun X d Rank.Product g = product_begun g
+rank_begun X d Rank.Term g = term_begun g
+rank_begun X d Rank.Sum g = sum_begun g
 
 -- WHAT STANDS AHEAD of a chain in the text: its next step, or the rest
 pub record Next (Joins : ℕ → Type 0) (St : ChainStep) (t : List ℕ) (e : ℕ) (q p : Policy) (rest : List ℕ) : Type 0 where

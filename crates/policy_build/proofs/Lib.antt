@@ -1,4 +1,5 @@
 pub mod Suffixes
+pub mod Placed
 pub mod Digits
 pub mod Names
 pub mod Chains

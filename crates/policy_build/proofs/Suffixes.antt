@@ -1,9 +1,9 @@
 -- What a text has from an offset on.
-use mathlib.Core.Path.{◌≡◌, refl, sym, ap, ◌∙◌}
-use mathlib.Core.List.{List, [], ◌∷◌}
-use Prim.Native.Nat.{ℕ, ◌+◌, ◌≤◌}
+use mathlib.Core.Path.{◌≡◌, sym, ap, ◌∙◌}
+use mathlib.Core.List.{List, ◌∷◌}
+use Prim.Native.Nat.{ℕ, ◌+◌}
 use native.Mathlib.Omega.{arith}
-use lib.ListN.{length, get_or, drop, length-drop}
+use lib.ListN.{get_or, drop}
 use lib.Seq.{drop-drop, get_or-drop}
 
 module _ (t : List ℕ) (at : ℕ) where
@@ -16,14 +16,3 @@ module _ (t : List ℕ) (at : ℕ) where
 
   pub next : {b : ℕ} {r : List ℕ} → drop at t ≡ b ∷ r → drop (at + 1) t ≡ r
   next h = sym (drop-drop 1 at t) ∙ ap (λ x. drop 1 x) h
-
-  -- past the end there is nothing
-  pub none_left : length t ≤ at → drop at t ≡ []
-  none_left h = empty (drop at t) (omega (arith, length-drop at t))
-    where
-      empty : (x : List ℕ) → length x ≡ 0 → x ≡ []
-      empty [] e = refl
-      empty (a ∷ x) e = absurd (omega (arith, e))
-
-  pub past_end : length t ≤ at → get_or t at 0 ≡ 0
-  past_end h = first_of (none_left h)

@@ -9,14 +9,11 @@ pub struct Number {
     pub end: usize,
 }
 
-// The byte at an offset, 0 where the text has ended.
+// The byte at an offset, 0 where the text has ended: no byte of the grammar, so that one match serves both.
 pub(crate) fn byte(text: &[u8], at: usize) -> u8
     ensures { (result ≡ get_or text.now at 0) × (0 < result → at < length text.now) }
 {
-    if at < text.len() {
-        return text[at];
-    }
-    0
+    text.get(at).copied().unwrap_or(0)
 }
 
 // The offset after this one, or the text's length.
@@ -24,10 +21,7 @@ pub(crate) fn past(text: &[u8], at: usize) -> usize
     requires { at ≤ length text.now }
     ensures { Past text.now at result }
 {
-    if at < text.len() {
-        return at + 1;
-    }
-    at
+    text.len().min(at + 1)
 }
 
 // A field: one or two digits.
@@ -48,12 +42,9 @@ pub(crate) fn field(text: &[u8], at: usize) -> Number
             end: next,
         };
     }
-    let ones = b - b'0';
-    let value = tens * 10 + ones;
-    let end = next + 1;
     Number {
-        value: value,
-        end: end,
+        value: tens * 10 + (b - b'0'),
+        end: next + 1,
     }
 }
 
@@ -61,6 +52,5 @@ pub(crate) fn field(text: &[u8], at: usize) -> Number
 pub(crate) fn bit(text: &[u8], at: usize) -> bool
     ensures { result ≡ eqb (get_or text.now at 0) 49 }
 {
-    let b = byte(text, at);
-    b == b'1'
+    byte(text, at) == b'1'
 }

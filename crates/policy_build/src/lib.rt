@@ -4,215 +4,218 @@
 ghost use Rattle.std.specs.Prelude.{◌≡◌, ◌≤◌, length, get_or};
 ghost use Rattle.policy_text.specs.XForms.{x_forms};
 ghost use Rattle.policy_text.specs.Machine.{mix_of};
-ghost use Rattle.policy_text.specs.Grammar.{Atom, Starred, Product, Term, Sum};
-ghost use Rattle.policy_build.specs.Building.{Builds, BuildsText, Named, after_atom, after_starred, after_product, after_term, after_sum};
+ghost use Rattle.policy_text.specs.Grammar.{Atom, Starred};
+ghost use Rattle.policy_build.specs.Building.{Builds, BuildsText, Named, after_atom, after_starred, part_of, after_part, ranked, after_rank, join_program};
 ghost use Rattle.model.specs.Store.{rel};
 ghost use Rattle.model.specs.Policies.{mix_program};
-ghost use Rattle.memory.specs.Performing.{Performs};
+ghost use Rattle.memory.specs.Performing.{Performs, going, ended};
 
-use memory::RunState;
+use items::{bit, byte, field, past};
+use policy_text::Rank;
+use relation_products::{sequence, star};
 
 mod items;
 
-// What was built of a part of the text: the state of the run, with the part's handle, and the offset after the part.
+// What was built of a part of the text: its handle, and the offset after the part.
 #[derive(Clone, Copy)]
 pub struct Built {
-    pub made: RunState,
+    pub handle: u32,
     pub end: usize,
 }
 
+// What a function builds is the part of the grammar that its clause names. The text, the nodes, the working memory and the count go along as they
+// were lent: a struct that holds the three `&mut` owes in every contract that each of them is still the same.
+
 // A test or an assignment, after its `x`.
-fn named(text: &[u8], at: usize, nodes: &mut [u32], work: &mut [u32], s: RunState, k: u8) -> Built
+fn named(
+    text: &[u8],
+    at: usize,
+    nodes: &mut [u32],
+    work: &mut [u32],
+    n: &mut usize,
+    k: u8,
+) -> Option<Built>
     requires { at ≤ length text.now }
-    ensures { Builds Named after_atom k text.now at s
-        nodes.old nodes.new work.old work.new result }
+    ensures { Builds Named after_atom k text.now at (going n.old) nodes.old nodes.new work.old work.new n.new result }
 {
-    let field = crate::items::field(text, at);
-    let sign = crate::items::byte(text, field.end);
-    let next = crate::items::past(text, field.end);
+    let field = field(text, at);
+    let sign = byte(text, field.end);
+    let next = past(text, field.end);
     if sign == b'=' {
-        let value = crate::items::bit(text, next);
-        let end = crate::items::past(text, next);
-        let r = relations::fields::test(nodes, work, s, k, field.value, value);
-        return Built { made: r, end: end };
+        let value = bit(text, next);
+        let end = past(text, next);
+        let handle = relations::fields::test(nodes, work, n, k, field.value, value)?;
+        return Some(Built { handle, end });
     }
-    let last = crate::items::past(text, next);
-    let value = crate::items::bit(text, last);
-    let end = crate::items::past(text, last);
-    let r = relations::fields::assign(nodes, work, s, k, field.value, value);
-    Built { made: r, end: end }
+    let last = past(text, next);
+    let value = bit(text, last);
+    let end = past(text, last);
+    let handle = relations::fields::assign(nodes, work, n, k, field.value, value)?;
+    Some(Built { handle, end })
 }
 
 // `0`, `1`, `T`, a test or an assignment.
-fn leaf(text: &[u8], at: usize, nodes: &mut [u32], work: &mut [u32], s: RunState, k: u8) -> Built
+fn leaf(
+    text: &[u8],
+    at: usize,
+    nodes: &mut [u32],
+    work: &mut [u32],
+    n: &mut usize,
+    k: u8,
+) -> Option<Built>
     requires { (at ≤ length text.now) × (¬ (get_or text.now at 0 ≡ 33)) × (¬ (get_or text.now at 0 ≡ 40)) }
-    ensures { Builds (Atom x_forms) after_atom k text.now at s
-        nodes.old nodes.new work.old work.new result }
+    ensures { Builds (Atom x_forms) after_atom k text.now at (going n.old) nodes.old nodes.new work.old work.new n.new result }
 {
-    let b = crate::items::byte(text, at);
-    let next = crate::items::past(text, at);
-    if b == b'0' {
-        let r = relations::zero_at_depth(nodes, work, s, k);
-        return Built { made: r, end: next };
-    }
-    if b == b'1' {
-        let r = relations::one_at_depth(nodes, work, s, k);
-        return Built { made: r, end: next };
-    }
-    if b == b'T' {
-        let r = relations::top_at_depth(nodes, work, s, k);
-        return Built { made: r, end: next };
-    }
-    named(text, next, nodes, work, s, k)
+    let end = past(text, at);
+    let handle = match byte(text, at) {
+        b'0' => relations::zero_at_depth(nodes, work, n, k)?,
+        b'1' => relations::one_at_depth(nodes, work, n, k)?,
+        b'T' => relations::top_at_depth(nodes, work, n, k)?,
+        _ => return named(text, end, nodes, work, n, k),
+    };
+    Some(Built { handle, end })
 }
 
 // `!` and an atom, a sum in parentheses, or a leaf.
-#[cycle(atom_product_starred_sum_term)]
-fn atom(text: &[u8], at: usize, nodes: &mut [u32], work: &mut [u32], s: RunState, k: u8) -> Built
+#[cycle(atom_joined_part_starred)]
+fn atom(
+    text: &[u8],
+    at: usize,
+    nodes: &mut [u32],
+    work: &mut [u32],
+    n: &mut usize,
+    k: u8,
+) -> Option<Built>
     requires { at ≤ length text.now }
-    ensures { Builds (Atom x_forms) after_atom k text.now at s
-        nodes.old nodes.new work.old work.new result }
+    ensures { Builds (Atom x_forms) after_atom k text.now at (going n.old) nodes.old nodes.new work.old work.new n.new result }
 {
-    let b = crate::items::byte(text, at);
-    if b == b'!' {
-        let p = atom(text, at + 1, nodes, work, s, k);
-        let made = p.made;
-        let one = relations::one_at_depth(nodes, work, made, k);
-        let r = relations::difference(nodes, work, one, k, one.h, made.h);
-        return Built {
-            made: r,
-            end: p.end,
-        };
+    match byte(text, at) {
+        b'!' => {
+            let p = atom(text, at + 1, nodes, work, n, k)?;
+            let one = relations::one_at_depth(nodes, work, n, k)?;
+            let handle = relations::difference(nodes, work, n, k, one, p.handle)?;
+            Some(Built { handle, ..p })
+        }
+        b'(' => {
+            let p = joined(Rank::Sum, text, at + 1, nodes, work, n, k)?;
+            let end = past(text, p.end);
+            Some(Built { end, ..p })
+        }
+        _ => leaf(text, at, nodes, work, n, k),
     }
-    if b == b'(' {
-        let p = sum(text, at + 1, nodes, work, s, k);
-        let made = p.made;
-        let end = crate::items::past(text, p.end);
-        return Built {
-            made: made,
-            end: end,
-        };
-    }
-    leaf(text, at, nodes, work, s, k)
 }
 
 // An atom and its stars.
-#[cycle(atom_product_starred_sum_term)]
-fn starred(text: &[u8], at: usize, nodes: &mut [u32], work: &mut [u32], s: RunState, k: u8) -> Built
+#[cycle(atom_joined_part_starred)]
+fn starred(
+    text: &[u8],
+    at: usize,
+    nodes: &mut [u32],
+    work: &mut [u32],
+    n: &mut usize,
+    k: u8,
+) -> Option<Built>
     requires { at ≤ length text.now }
-    ensures { Builds (Starred x_forms) after_starred k text.now at s
-        nodes.old nodes.new work.old work.new result }
+    ensures { Builds (Starred x_forms) after_starred k text.now at (going n.old) nodes.old nodes.new work.old work.new n.new result }
 {
-    let p = atom(text, at, nodes, work, s, k);
-    let mut made = p.made;
-    let mut end = p.end;
-    while crate::items::byte(text, end) == b'*' {
-        made = relation_products::star(nodes, work, made, k, made.h);
-        end += 1;
+    let mut p = atom(text, at, nodes, work, n, k)?;
+    while byte(text, p.end) == b'*' {
+        p.handle = star(nodes, work, n, k, p.handle)?;
+        p.end += 1;
     }
-    Built {
-        made: made,
-        end: end,
-    }
+    Some(p)
 }
 
-// Starred items joined by `;`.
-#[cycle(atom_product_starred_sum_term)]
-fn product(text: &[u8], at: usize, nodes: &mut [u32], work: &mut [u32], s: RunState, k: u8) -> Built
-    requires { at ≤ length text.now }
-    ensures { Builds (Product x_forms) after_product k text.now at s
-        nodes.old nodes.new work.old work.new result }
-{
-    let p = starred(text, at, nodes, work, s, k);
-    let mut made = p.made;
-    let mut end = p.end;
-    while crate::items::byte(text, end) == b';' {
-        let q = starred(text, end + 1, nodes, work, made, k);
-        let right = q.made;
-        made = relation_products::sequence(nodes, work, right, k, made.h, right.h);
-        end = q.end;
-    }
-    Built {
-        made: made,
-        end: end,
-    }
-}
-
-// The operation of a sign, `&`, `-` or `^`.
+// The operation of a sign, `&`, `-` or `^`: a byte of the text, told apart where it is read.
 fn mixed(
     nodes: &mut [u32],
     work: &mut [u32],
-    s: RunState,
+    n: &mut usize,
     k: u8,
     sign: u8,
     a: u32,
     b: u32,
-) -> RunState
-    ensures { Performs rel (mix_program (mix_of sign) k a b) s
-        nodes.old nodes.new work.old work.new result }
+) -> Option<u32>
+    ensures { Performs rel (mix_program (mix_of sign) k a b) (going n.old) nodes.old nodes.new work.old work.new (ended n.new result) }
 {
-    if sign == b'&' {
-        return relations::intersect(nodes, work, s, k, a, b);
+    match sign {
+        b'&' => relations::intersect(nodes, work, n, k, a, b),
+        b'-' => relations::difference(nodes, work, n, k, a, b),
+        _ => relations::xor(nodes, work, n, k, a, b),
     }
-    if sign == b'-' {
-        return relations::difference(nodes, work, s, k, a, b);
-    }
-    relations::xor(nodes, work, s, k, a, b)
 }
 
-// Products joined by `&`, `-` and `^`.
-#[cycle(atom_product_starred_sum_term)]
-fn term(text: &[u8], at: usize, nodes: &mut [u32], work: &mut [u32], s: RunState, k: u8) -> Built
-    requires { at ≤ length text.now }
-    ensures { Builds (Term x_forms) after_term k text.now at s
-        nodes.old nodes.new work.old work.new result }
+// The operation of a sign that joins the parts of a rank.
+fn operation(
+    rank: Rank,
+    sign: u8,
+    nodes: &mut [u32],
+    work: &mut [u32],
+    n: &mut usize,
+    k: u8,
+    a: u32,
+    b: u32,
+) -> Option<u32>
+    ensures { Performs rel (join_program rank sign k a b) (going n.old) nodes.old nodes.new work.old work.new (ended n.new result) }
 {
-    let p = product(text, at, nodes, work, s, k);
-    let mut made = p.made;
-    let mut end = p.end;
+    match rank {
+        Rank::Product => sequence(nodes, work, n, k, a, b),
+        Rank::Term => mixed(nodes, work, n, k, sign, a, b),
+        Rank::Sum => relations::union(nodes, work, n, k, a, b),
+    }
+}
+
+// A part of a rank.
+#[cycle(atom_joined_part_starred)]
+fn part(
+    rank: Rank,
+    text: &[u8],
+    at: usize,
+    nodes: &mut [u32],
+    work: &mut [u32],
+    n: &mut usize,
+    k: u8,
+) -> Option<Built>
+    requires { at ≤ length text.now }
+    ensures { Builds (part_of x_forms rank) (after_part rank) k text.now at (going n.old) nodes.old nodes.new work.old work.new n.new result }
+{
+    match rank {
+        Rank::Product => starred(text, at, nodes, work, n, k),
+        Rank::Term => joined(Rank::Product, text, at, nodes, work, n, k),
+        Rank::Sum => joined(Rank::Term, text, at, nodes, work, n, k),
+    }
+}
+
+// A rank: its parts, joined. As with the stars, a turn goes on by as much of the text as a call has read, so no iterator gives its steps.
+#[cycle(atom_joined_part_starred)]
+fn joined(
+    rank: Rank,
+    text: &[u8],
+    at: usize,
+    nodes: &mut [u32],
+    work: &mut [u32],
+    n: &mut usize,
+    k: u8,
+) -> Option<Built>
+    requires { at ≤ length text.now }
+    ensures { Builds (ranked x_forms rank) (after_rank rank) k text.now at (going n.old) nodes.old nodes.new work.old work.new n.new result }
+{
+    let mut p = part(rank, text, at, nodes, work, n, k)?;
     loop {
-        let sign = crate::items::byte(text, end);
-        if !policy_text::mixes(sign) {
-            return Built {
-                made: made,
-                end: end,
-            };
+        let sign = byte(text, p.end);
+        if !rank.joins(sign) {
+            return Some(p);
         }
-        let q = product(text, end + 1, nodes, work, made, k);
-        let right = q.made;
-        made = mixed(nodes, work, right, k, sign, made.h, right.h);
-        end = q.end;
-    }
-}
-
-// Terms joined by `+`.
-#[cycle(atom_product_starred_sum_term)]
-fn sum(text: &[u8], at: usize, nodes: &mut [u32], work: &mut [u32], s: RunState, k: u8) -> Built
-    requires { at ≤ length text.now }
-    ensures { Builds (Sum x_forms) after_sum k text.now at s
-        nodes.old nodes.new work.old work.new result }
-{
-    let p = term(text, at, nodes, work, s, k);
-    let mut made = p.made;
-    let mut end = p.end;
-    while crate::items::byte(text, end) == b'+' {
-        let q = term(text, end + 1, nodes, work, made, k);
-        let right = q.made;
-        made = relations::union(nodes, work, right, k, made.h, right.h);
-        end = q.end;
-    }
-    Built {
-        made: made,
-        end: end,
+        let q = part(rank, text, p.end + 1, nodes, work, n, k)?;
+        p.handle = operation(rank, sign, nodes, work, n, k, p.handle, q.handle)?;
+        p.end = q.end;
     }
 }
 
 // The policy of a checked text, built on the nodes of relations.
-pub fn build(text: &[u8], nodes: &mut [u32], work: &mut [u32], s: RunState, k: u8) -> RunState
-    ensures { BuildsText x_forms k text.now s
-        nodes.old nodes.new work.old work.new result }
+pub fn build(text: &[u8], nodes: &mut [u32], work: &mut [u32], n: &mut usize, k: u8) -> Option<u32>
+    ensures { BuildsText x_forms k text.now (going n.old) nodes.old nodes.new work.old work.new (ended n.new result) }
 {
-    let p = sum(text, 0, nodes, work, s, k);
-    let made = p.made;
-    made
+    let p = joined(Rank::Sum, text, 0, nodes, work, n, k)?;
+    Some(p.handle)
 }

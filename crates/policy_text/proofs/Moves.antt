@@ -1,28 +1,37 @@
 -- How the run moves on at an offset of the text, and what that makes of the functions' promises.
 use mathlib.Core.Path.{◌≡◌, refl, sym, ap, subst, ◌∙◌}
-use Prim.Native.Nat.{ℕ, suc, ◌+◌, ◌≤◌, ◌<◌}
+use Prim.Native.Nat.{ℕ, zero, suc, ◌+◌, ◌≤◌, ◌<◌}
 use native.Mathlib.Numerals.{add-one}
 use native.Mathlib.Omega.{arith}
 use mathlib.Core.List.{List, [], ◌∷◌}
 use mathlib.Core.Bool.{Bool, true, false, not, ◌||◌, true≢false}
 use lib.ListN.{length, drop, get_or}
-use lib.Seq.{drop-cons, drop-length}
+use lib.Seq.{drop-cons}
+use Rattle.std.specs.Prelude.{Result, Ok, Err}
+use Rattle.std.specs.List.{prefix_len}
+use Rattle.std.proofs.lemmas.List.{drop_all, get_or-drop, length-drop}
+use Rattle.std.proofs.lemmas.List.Sums.{prefix_len-le-length, prefix_len_passes, prefix_len_stops}
 use borrow.Author.Tests.{eq-eqb, ne_eqb, lt-ltb, le-ltb, eqb-true, eqb-false}
 use Rattle.model.specs.Policies.{Policy}
 use mathlib.Core.Logic.{◌⊎◌, inl, inr}
 use native.Mathlib.Nat.{zero-add}
 use lib.Dec.{eqb}
 use Rattle.policy_text.specs.Lexicon.{Lexicon}
-use Rattle.policy_text.specs.Machine.{Acc, nothing, sofar, Left, opening, paren, negs, join_seq, join_term, close, Frame, State, need, post}
+use Rattle.policy_text.specs.Machine.{Acc, nothing, sofar, Left, opening, paren, negs, join_seq, join_term, close, Frame, State, need, inside, bit}
+use Rattle.policy_text.specs.Machine.{leaf, mid_step, mid_go, post}
 use Rattle.policy_text.specs.Machine.{does_mix, Out, accept, bad, deep, nesting, scan, reads, byte_step, final, start, onward, go, stop, over, ByteStep}
-use Rattle.policy_text.specs.Posts.{continues_starred, continues_product, continues_term, continues_sum}
+use Rattle.policy_text.specs.Misreads.{misread}
+use Rattle.policy_text.specs.Posts.{continues_starred, continues_product, continues_term, continues_sum, continues_part, continues_rank, does_join}
 use Rattle.policy_text.specs.Posts.{scan_at, Open, AtomPost, JoinPost, StarsPost, read_of}
-use Rattle.policy_text.specs.declared.syntax.Read.{Read}
-use Rattle.policy_text.specs.declared.syntax.Read.TheVariants.{End, Bad, Deep}
+use Rattle.policy_text.specs.declared.Fault.{Fault}
+use Rattle.policy_text.specs.declared.Misread.{Misread}
+use Rattle.policy_text.specs.declared.Rank.{Rank}
 
--- of two refusals
-abbrev pub ReadRefused : Read → Type 0
-ReadRefused x = (e : ℕ) → x ≡ End e → ⊥
+-- the ranks from the lowest up
+abbrev pub rank_number : Rank → ℕ
+rank_number Rank.Product = 1
+rank_number Rank.Term = 2
+rank_number Rank.Sum = 3
 
 pub not_true : (x : Bool) → not x ≡ true → x ≡ false
 not_true true e = sym e
@@ -117,62 +126,112 @@ module _ (X : Lexicon) where
     unfolding onward
     scan_over q at h e = scan_step q at h ∙ ap (λ (s : ByteStep). onward s (λ r. scan_at X t r (at + 1)) at) e
 
-    pub scan_end : (q : State) (at : ℕ) → at ≡ length t → scan_at X t q at ≡ final q at
+    pub scan_end : (q : State) (at : ℕ) → length t ≤ at → scan_at X t q at ≡ final q at
     unfolding scan_at scan
-    scan_end q at e = ap (λ (k : ℕ). scan X 32 q at (drop k t)) e ∙ ap (λ (s : List ℕ). scan X 32 q at s) (drop-length t)
+    scan_end q at e = ap (λ (s : List ℕ). scan X 32 q at s) (drop_all at t e)
 
     -- one byte, and then an atom's rest
-    pub atom_go : (d : ℕ) (q r : Open) (at : ℕ) (x : Read) → at < length t
+    pub atom_go : (d : ℕ) (q r : Open) (at : ℕ) (x : Result ℕ Misread) → at < length t
         → ((sa : Left) (pa : Acc) (n : ℕ) (σ : List Frame) → byte_step X 32 (q sa pa n σ) (get_or t at 0) ≡ go (r sa pa n σ))
         → AtomPost X t d r (at + 1) x → AtomPost X t d q at x
     unfolding AtomPost
-    atom_go d q r at (End e) h s a = (
+    atom_go d q r at (Ok e) h s a = (
       omega (arith, a.0),
       a.1,
       λ sa pa n σ g. let u = a.2 sa pa n σ g in
           (u.0, scan_go (q sa pa n σ) (r sa pa n σ) at h (s sa pa n σ) ∙ u.1),
     )
-    atom_go d q r at (Bad i) h s a = λ sa pa n σ g. scan_go (q sa pa n σ) (r sa pa n σ) at h (s sa pa n σ) ∙ a sa pa n σ g
-    atom_go d q r at (Deep i) h s a = λ sa pa n σ g. scan_go (q sa pa n σ) (r sa pa n σ) at h (s sa pa n σ) ∙ a sa pa n σ g
+    atom_go d q r at (Err m) h s a = λ sa pa n σ g. ap read_of (scan_go (q sa pa n σ) (r sa pa n σ) at h (s sa pa n σ)) ∙ a sa pa n σ g
 
     -- one byte, which ends the atom
     pub atom_whole : (d : ℕ) (q : Open) (at : ℕ) (p : ℕ → Policy) → at < length t
         → ((sa : Left) (pa : Acc) (n : ℕ) (σ : List Frame) → byte_step X 32 (q sa pa n σ) (get_or t at 0) ≡ go (post (p n) sa pa σ))
-        → AtomPost X t d q at (End (at + 1))
+        → AtomPost X t d q at (Ok (at + 1))
     unfolding AtomPost
     atom_whole d q at p h s = (omega arith, omega arith, λ sa pa n σ g. (p n, scan_go (q sa pa n σ) (post (p n) sa pa σ) at h (s sa pa n σ)))
 
-    pub atom_stop : (d : ℕ) (q : Open) (at : ℕ) → at < length t
+    pub atom_stop : (d : ℕ) (q : Open) (at : ℕ) (m : Misread) → at < length t → m ≡ misread Fault.NotPolicy at
         → ((sa : Left) (pa : Acc) (n : ℕ) (σ : List Frame) → byte_step X 32 (q sa pa n σ) (get_or t at 0) ≡ stop)
-        → AtomPost X t d q at (Bad at)
-    unfolding AtomPost
-    atom_stop d q at h s = λ sa pa n σ g. scan_stop (q sa pa n σ) at h (s sa pa n σ)
+        → AtomPost X t d q at (Err m)
+    unfolding AtomPost read_of
+    atom_stop d q at m h e s = λ sa pa n σ g. ap read_of (scan_stop (q sa pa n σ) at h (s sa pa n σ)) ∙ ap Err (sym e)
 
-    pub atom_end : (d : ℕ) (q : Open) (at : ℕ) → at ≡ length t
+    pub atom_end : (d : ℕ) (q : Open) (at : ℕ) (m : Misread) (x : Result ℕ Misread) → x ≡ Err m → (length t ≤ at) × (m ≡ misread Fault.NotPolicy at)
         → ((sa : Left) (pa : Acc) (n : ℕ) (σ : List Frame) → final (q sa pa n σ) at ≡ bad at)
-        → AtomPost X t d q at (Bad at)
-    unfolding AtomPost
-    atom_end d q at e s = λ sa pa n σ g. scan_end (q sa pa n σ) at e ∙ s sa pa n σ
+        → AtomPost X t d q at x
+    unfolding AtomPost read_of
+    atom_end d q at m x k e s = subst (λ (y : Result ℕ Misread). AtomPost X t d q at y) (sym k)
+        (λ sa pa n σ g. ap read_of (scan_end (q sa pa n σ) at e.0 ∙ s sa pa n σ) ∙ ap Err (sym e.1))
 
-    -- no star so far; one star more; the stars' end
-    pub Stars : ℕ → ℕ → Type 0
+    -- the value b of a test or an assignment; `0`, `1` or `T`
+    pub atom_bit : (d : ℕ) (k : Bool) (n at : ℕ) → at < length t → 48 ≤ get_or t at 0 → get_or t at 0 ≤ 49 → AtomPost X t d (inside (bit k n)) at (Ok (at + 1))
+    unfolding byte_step mid_step mid_go
+    atom_bit d k n at h l u = by (eqb (get_or t at 0) 48) refl
+      where
+        by : (x : Bool) → eqb (get_or t at 0) 48 ≡ x → AtomPost X t d (inside (bit k n)) at (Ok (at + 1))
+        by true e = atom_whole d (inside (bit k n)) at (λ m. negs m (leaf k n false)) h (λ sa pa m σ. simp e)
+        by false e = atom_whole d (inside (bit k n)) at (λ m. negs m (leaf k n true)) h
+            (λ sa pa m σ. simp (e, eq-eqb (get_or t at 0) 49 (omega (arith, eqb-false _ 48 e))))
+
+    pub atom_leaf : (d at : ℕ) → at < length t → ((48 ≤ get_or t at 0) × (get_or t at 0 ≤ 49)) ⊎ (get_or t at 0 ≡ 84) → AtomPost X t d need at (Ok (at + 1))
+    unfolding byte_step
+    atom_leaf d at h (inr e) = atom_whole d need at (λ m. negs m Policy.full) h (λ sa pa m σ. ap (byte_step X 32 (need sa pa m σ)) e)
+    atom_leaf d at h (inl (l, u)) = by (eqb (get_or t at 0) 48) refl
+      where
+        by : (x : Bool) → eqb (get_or t at 0) 48 ≡ x → AtomPost X t d need at (Ok (at + 1))
+        by true e = atom_whole d need at (λ m. negs m Policy.fail) h (λ sa pa m σ. simp e)
+        by false e = atom_whole d need at (λ m. negs m Policy.skip) h
+            (λ sa pa m σ. simp (e, eq-eqb (get_or t at 0) 49 (omega (arith, l, u, eqb-false _ 48 e))))
+
+    -- a byte that no atom begins with
+    pub atom_none : (d at : ℕ) (m : Misread) → at < length t → m ≡ misread Fault.NotPolicy at → X.does_begin (get_or t at 0 ∷ []) ≡ false
+        → (get_or t at 0 < 48 ⊎ 49 < get_or t at 0) × (get_or t at 0 ≡ 84 → ⊥) × (get_or t at 0 ≡ 33 → ⊥) × (get_or t at 0 ≡ 40 → ⊥)
+        → AtomPost X t d need at (Err m)
+    unfolding byte_step
+    atom_none d at m h e w (b, f, g, k) = atom_stop d need at m h e (λ sa pa n σ. simp (
+      ne_eqb (get_or t at 0) 48 (λ z. omega (arith, z, b)),
+      ne_eqb (get_or t at 0) 49 (λ z. omega (arith, z, b)),
+      ne_eqb _ _ f,
+      ne_eqb _ _ g,
+      ne_eqb _ _ k,
+      w,
+    ))
+
+    -- no star so far; one star more; all stars of what is left
+    Stars : ℕ → ℕ → Type 0
     Stars at i = (v : Policy) (sa : Left) (pa : Acc) (σ : List Frame) → (u : Policy) × (scan_at X t (post v sa pa σ) at ≡ scan_at X t (post u sa pa σ) i)
 
-    pub stars_none : (at : ℕ) → Stars at at
+    stars_none : (at : ℕ) → Stars at at
     unfolding Stars
     stars_none at v sa pa σ = (v, refl)
 
-    pub stars_more : (at i : ℕ) → i < length t → get_or t i 0 ≡ 42 → Stars at i → Stars at (i + 1)
+    stars_more : (at i j : ℕ) → i < length t → get_or t i 0 ≡ 42 → j ≡ i + 1 → Stars at i → Stars at j
     unfolding Stars byte_step
-    stars_more at i h e s v sa pa σ = let u = s v sa pa σ in
-        (Policy.stars u.0, u.1 ∙ scan_go (post u.0 sa pa σ) (post (Policy.stars u.0) sa pa σ) i h (simp (eq-eqb _ _ e)))
+    stars_more at i j h e k s v sa pa σ = let u = s v sa pa σ in
+        (Policy.stars u.0, u.1 ∙ rw k (scan_go (post u.0 sa pa σ) (post (Policy.stars u.0) sa pa σ) i h (simp (eq-eqb _ _ e))))
 
-    pub stars_post : (at i : ℕ) → at ≤ i → i ≤ length t → (i < length t → get_or t i 0 ≡ 42 → ⊥) → Stars at i → StarsPost X t at i
-    unfolding Stars StarsPost
-    stars_post at i h l f s = (h, l, (λ g. ne_eqb _ _ (f g)), s)
+    module _ (at : ℕ) (h : at ≤ length t) where
+      stars_within : prefix_len continues_starred (drop at t) + at ≤ length t
+      stars_within = omega (arith, prefix_len-le-length continues_starred (drop at t), length-drop at t)
+
+      stars_run : (k : ℕ) → k ≤ prefix_len continues_starred (drop at t) → Stars at (at + k)
+      stars_run zero l = subst (Stars at) (omega arith) (stars_none at)
+      stars_run (suc k) l =
+          let e = prefix_len_passes continues_starred (drop at t) k 0 (omega arith) in
+          stars_more at (at + k) (at + suc k) (omega (arith, stars_within)) (sym (get_or-drop at t k 0) ∙ eqb-true _ 42 e) (omega arith)
+          (stars_run k (omega arith))
+
+      pub stars_post : (n : ℕ) → n ≡ prefix_len continues_starred (drop at t) → StarsPost X t at (at + n)
+      unfolding Stars StarsPost
+      stars_post n e = (
+        omega arith,
+        omega (arith, e, stars_within),
+        (λ l. sym (ap continues_starred (get_or-drop at t n 0)) ∙ rw e (prefix_len_stops continues_starred (drop at t) 0 (omega (arith, e, length-drop at t)))),
+        stars_run n (omega (arith, e)),
+      )
 
     -- joins
-    pub join_stars : (d at e r : ℕ) → AtomPost X t d need at (End e) → StarsPost X t e r → JoinPost X continues_starred t d at (End r)
+    pub join_stars : (d at e r : ℕ) → AtomPost X t d need at (Ok e) → StarsPost X t e r → JoinPost X continues_starred t d at (Ok r)
     unfolding AtomPost JoinPost StarsPost
     join_stars d at e r a s = (
       omega (arith, a.0, s.0),
@@ -182,121 +241,96 @@ module _ (X : Lexicon) where
           (sa, pa, w.0, u.1 ∙ w.1),
     )
 
-    pub join_atom_refused : (g : ℕ → Bool) (d at : ℕ) (x : Read) → ReadRefused x → AtomPost X t d need at x → JoinPost X g t d at x
+    pub join_atom_refused : (g : ℕ → Bool) (d at : ℕ) (m : Misread) (x : Result ℕ Misread) → x ≡ Err m → AtomPost X t d need at (Err m) → JoinPost X g t d at x
     unfolding AtomPost JoinPost
-    join_atom_refused g d at (End e) r a = absurd (r e refl)
-    join_atom_refused g d at (Bad e) r a = λ sa pa σ h. a sa pa 0 σ (zero-add _ ∙ h)
-    join_atom_refused g d at (Deep e) r a = λ sa pa σ h. a sa pa 0 σ (zero-add _ ∙ h)
+    join_atom_refused g d at m x k a = subst (λ (y : Result ℕ Misread). JoinPost X g t d at y) (sym k) (λ sa pa σ h. a sa pa 0 σ (zero-add _ ∙ h))
 
-    pub join_refused : (g h : ℕ → Bool) (d at : ℕ) (x : Read) → ReadRefused x → JoinPost X g t d at x → JoinPost X h t d at x
+    pub join_refused : (g h : ℕ → Bool) (d at : ℕ) (m : Misread) (x : Result ℕ Misread) → x ≡ Err m → JoinPost X g t d at (Err m) → JoinPost X h t d at x
     unfolding JoinPost
-    join_refused g h d at (End e) r a = absurd (r e refl)
-    join_refused g h d at (Bad e) r a = a
-    join_refused g h d at (Deep e) r a = a
+    join_refused g h d at m x k a = subst (λ (y : Result ℕ Misread). JoinPost X h t d at y) (sym k) a
 
-    pub join_stop : (g h : ℕ → Bool) (d at e : ℕ) → (e < length t → g (get_or t e 0) ≡ false → h (get_or t e 0) ≡ false) → JoinPost X g t d at (End e)
-        → JoinPost X h t d at (End e)
-    unfolding JoinPost
-    join_stop g h d at e f a = (a.0, a.1, (λ l. f l (a.2 l)), a.3)
-
-    -- the same of a result that is known
-    pub join_known : (g : ℕ → Bool) (d at e : ℕ) (x : Read) → x ≡ End e → JoinPost X g t d at x → JoinPost X g t d at (End e)
-    join_known g d at e x h a = subst (λ (y : Read). JoinPost X g t d at y) h a
-
-    pub atom_known : (d at e : ℕ) (q : Open) (x : Read) → x ≡ End e → AtomPost X t d q at x → AtomPost X t d q at (End e)
-    atom_known d at e q x h a = subst (λ (y : Read). AtomPost X t d q at y) h a
-
-    pub join_lt : (g : ℕ → Bool) (d at e : ℕ) → JoinPost X g t d at (End e) → (e ≡ length t → ⊥) → e < length t
-    unfolding JoinPost
-    join_lt g d at e a f = omega (arith, a.1)
-
-    pub join_from : (g : ℕ → Bool) (d at e : ℕ) → JoinPost X g t d at (End e) → at ≤ e
+    pub join_from : (g : ℕ → Bool) (d at e : ℕ) → JoinPost X g t d at (Ok e) → at ≤ e
     unfolding JoinPost
     join_from g d at e a = a.0
 
-    pub atom_in : (d at e : ℕ) → AtomPost X t d need at (End e) → e ≤ length t
+    pub join_in : (g : ℕ → Bool) (d at e : ℕ) → JoinPost X g t d at (Ok e) → e ≤ length t
+    unfolding JoinPost
+    join_in g d at e a = a.1
+
+    pub atom_in : (d at e : ℕ) → AtomPost X t d need at (Ok e) → e ≤ length t
     unfolding AtomPost
     atom_in d at e a = a.1
 
-    -- operands up to i, each with its join
-    pub Joined : ℕ → ℕ → ℕ → Type 0
-    Joined d at i = (at ≤ i) × (i ≤ length t)
-        × ((sa : Left) (pa : Acc) (σ : List Frame) → nesting σ ≡ d
-        → (sb : Left) × (pb : Acc) × (scan_at X t (need sa pa 0 σ) at ≡ scan_at X t (need sb pb 0 σ) i))
+    -- the parts of a rank up to e, and what follows them: nothing that joins them, so that the rank ends
+    pub rank_ends : (r : Rank) (d at e : ℕ) → (e < length t → does_join r (get_or t e 0) ≡ false) → JoinPost X (continues_part r) t d at (Ok e)
+        → JoinPost X (continues_rank r) t d at (Ok e)
+    unfolding JoinPost
+    rank_ends r d at e f a = (a.0, a.1, (λ l. or_falses _ _ (a.2 l) (f l)), a.3)
 
-    pub joined_none : (d at : ℕ) → at ≤ length t → Joined d at at
-    unfolding Joined
-    joined_none d at h = (omega arith, h, λ sa pa σ k. (sa, pa, refl))
+    -- what joins the parts leaves an operand to be read
+    joins : (r : Rank) (b : ℕ) (v : Policy) (sa : Left) (pa : Acc) (σ : List Frame) → true ≡ does_join r b
+        → (sb : Left) × (pb : Acc) × (byte_step X 32 (post v sa pa σ) b ≡ go (need sb pb 0 σ))
+    joins Rank.Product b v sa pa σ e = (_, _, step_semi v sa pa σ b (eqb-true b 59 (sym e)))
+    joins Rank.Term b v sa pa σ e = let u = step_mix v sa pa σ b e in (u.0, _, u.1)
+    joins Rank.Sum b v sa pa σ e = (_, _, step_plus v sa pa σ b (eqb-true b 43 (sym e)))
 
-    pub joined_from : (d at i : ℕ) → Joined d at i → at ≤ i
-    unfolding Joined
-    joined_from d at i j = j.0
-
-    pub joined_in : (d at i : ℕ) → Joined d at i → i ≤ length t
-    unfolding Joined
-    joined_in d at i j = j.1
-
-    pub joined_more : (g : ℕ → Bool) (d at i e : ℕ) → e < length t
-        → ((v : Policy) (sa : Left) (pa : Acc) (σ : List Frame)
-        → (sb : Left) × (pb : Acc) × (byte_step X 32 (post v sa pa σ) (get_or t e 0) ≡ go (need sb pb 0 σ)))
-        → Joined d at i → JoinPost X g t d i (End e) → Joined d at (e + 1)
-    unfolding Joined JoinPost
-    joined_more g d at i e l s j b = (
-      omega (arith, j.0, b.0),
-      omega arith,
-      λ sa pa σ k.
-          let u = j.2 sa pa σ k in
-          let w = b.3 u.0 u.1 σ k in
-          let z = s w.2 w.0 w.1 σ in
-          (z.0, z.1, u.2 ∙ w.3 ∙ scan_go (post w.2 w.0 w.1 σ) (need z.0 z.1 0 σ) e l z.2),
-    )
-
-    -- the last operand, or the refusal
-    pub joined_last : (g : ℕ → Bool) (d at i : ℕ) (x : Read) → Joined d at i → JoinPost X g t d i x → JoinPost X g t d at x
-    unfolding Joined JoinPost
-    joined_last g d at i (End e) j b = (
-      omega (arith, j.0, b.0),
+    -- one part more, or its refusal
+    pub rank_more : (r : Rank) (g : ℕ → Bool) (d at e : ℕ) (x : Result ℕ Misread) → e < length t → true ≡ does_join r (get_or t e 0)
+        → JoinPost X g t d at (Ok e) → JoinPost X g t d (e + 1) x → JoinPost X g t d at x
+    unfolding JoinPost
+    rank_more r g d at e (Ok f) l j a b = (
+      omega (arith, a.0, b.0),
       b.1,
       b.2,
-      λ sa pa σ k. let u = j.2 sa pa σ k in let w = b.3 u.0 u.1 σ k in (w.0, w.1, w.2, u.2 ∙ w.3),
+      λ sa pa σ k.
+          let u = a.3 sa pa σ k in
+          let z = joins r (get_or t e 0) u.2 u.0 u.1 σ j in
+          let w = b.3 z.0 z.1 σ k in
+          (w.0, w.1, w.2, u.3 ∙ scan_go (post u.2 u.0 u.1 σ) (need z.0 z.1 0 σ) e l z.2 ∙ w.3),
     )
-    joined_last g d at i (Bad e) j b = λ sa pa σ k. let u = j.2 sa pa σ k in u.2 ∙ b u.0 u.1 σ k
-    joined_last g d at i (Deep e) j b = λ sa pa σ k. let u = j.2 sa pa σ k in u.2 ∙ b u.0 u.1 σ k
+    rank_more r g d at e (Err m) l j a b = λ sa pa σ k.
+        let u = a.3 sa pa σ k in
+        let z = joins r (get_or t e 0) u.2 u.0 u.1 σ j in
+        ap read_of (u.3 ∙ scan_go (post u.2 u.0 u.1 σ) (need z.0 z.1 0 σ) e l z.2) ∙ b z.0 z.1 σ k
 
     -- `!` and an atom
-    pub atom_bang : (d at : ℕ) (x : Read) → at < length t → get_or t at 0 ≡ 33 → d < 32 → AtomPost X t (d + 1) need (at + 1) x → AtomPost X t d need at x
+    pub atom_bang : (d i at : ℕ) (x : Result ℕ Misread) → at < length t → get_or t at 0 ≡ 33 → (d < 32) × (i ≡ d + 1) → AtomPost X t i need (at + 1) x
+        → AtomPost X t d need at x
     unfolding AtomPost
-    atom_bang d at (End e) h b l a = (
+    atom_bang d i at (Ok e) h b (l, j) a = (
       omega (arith, a.0),
       a.1,
       λ sa pa n σ g. let u = a.2 sa pa (suc n) σ (omega arith) in
           (u.0, scan_go _ _ at h (step_bang sa pa n σ _ b (omega arith)) ∙ u.1),
     )
-    atom_bang d at (Bad i) h b l a = λ sa pa n σ g. scan_go _ _ at h (step_bang sa pa n σ _ b (omega arith)) ∙ a sa pa (suc n) σ (omega arith)
-    atom_bang d at (Deep i) h b l a = λ sa pa n σ g. scan_go _ _ at h (step_bang sa pa n σ _ b (omega arith)) ∙ a sa pa (suc n) σ (omega arith)
+    atom_bang d i at (Err m) h b (l, j) a = λ sa pa n σ g.
+        ap read_of (scan_go _ _ at h (step_bang sa pa n σ _ b (omega arith))) ∙ a sa pa (suc n) σ (omega arith)
 
-    pub atom_over : (d at : ℕ) → at < length t → (get_or t at 0 ≡ 33) ⊎ (get_or t at 0 ≡ 40) → 32 ≤ d → AtomPost X t d need at (Deep at)
-    unfolding AtomPost
-    atom_over d at h (inl b) l = λ sa pa n σ g. scan_over _ at h (step_bang_over sa pa n σ _ b (omega arith))
-    atom_over d at h (inr b) l = λ sa pa n σ g. scan_over _ at h (step_open_over sa pa n σ _ b (omega arith))
+    pub atom_over : (d at : ℕ) (m : Misread) (x : Result ℕ Misread) → x ≡ Err m → at < length t → (get_or t at 0 ≡ 33) ⊎ (get_or t at 0 ≡ 40)
+        → (32 ≤ d) × (m ≡ misread Fault.TooDeep at) → AtomPost X t d need at x
+    unfolding AtomPost read_of
+    atom_over d at m x k h b (l, e) = subst (λ (y : Result ℕ Misread). AtomPost X t d need at y) (sym k) (by b)
+      where
+        by : (get_or t at 0 ≡ 33) ⊎ (get_or t at 0 ≡ 40) → AtomPost X t d need at (Err m)
+        by (inl b) = λ sa pa n σ g. ap read_of (scan_over _ at h (step_bang_over sa pa n σ _ b (omega arith))) ∙ ap Err (sym e)
+        by (inr b) = λ sa pa n σ g. ap read_of (scan_over _ at h (step_open_over sa pa n σ _ b (omega arith))) ∙ ap Err (sym e)
 
     -- `(`, a sum, and `)`, or what is in its place
-    module _ (d at : ℕ) (h : at < length t) (b : get_or t at 0 ≡ 40) (l : d < 32) where
+    module _ (d i at : ℕ) (h : at < length t) (b : get_or t at 0 ≡ 40) (l : (d < 32) × (i ≡ d + 1)) where
       opened : (sa : Left) (pa : Acc) (n : ℕ) (σ : List Frame) → n + nesting σ ≡ d
           → scan_at X t (need sa pa n σ) at ≡ scan_at X t (need (opening nothing) nothing 0 (paren sa pa n ∷ σ)) (at + 1)
-      opened sa pa n σ g = scan_go _ _ at h (step_open sa pa n σ _ b (omega arith))
+      opened sa pa n σ g = scan_go _ _ at h (step_open sa pa n σ _ b (omega (arith, l.0)))
 
-      within : (sa : Left) (pa : Acc) (n : ℕ) (σ : List Frame) → n + nesting σ ≡ d → nesting (paren sa pa n ∷ σ) ≡ d + 1
+      within : (sa : Left) (pa : Acc) (n : ℕ) (σ : List Frame) → n + nesting σ ≡ d → nesting (paren sa pa n ∷ σ) ≡ i
       unfolding nesting
-      within sa pa n σ g = omega arith
+      within sa pa n σ g = omega (arith, l.1)
 
-      pub paren_refused : (x : Read) → ReadRefused x → JoinPost X continues_sum t (d + 1) (at + 1) x → AtomPost X t d need at x
+      pub paren_refused : (m : Misread) (x : Result ℕ Misread) → x ≡ Err m → JoinPost X continues_sum t i (at + 1) (Err m) → AtomPost X t d need at x
       unfolding AtomPost JoinPost
-      paren_refused (End e) r a = absurd (r e refl)
-      paren_refused (Bad i) r a = λ sa pa n σ g. opened sa pa n σ g ∙ a (opening nothing) nothing (paren sa pa n ∷ σ) (within sa pa n σ g)
-      paren_refused (Deep i) r a = λ sa pa n σ g. opened sa pa n σ g ∙ a (opening nothing) nothing (paren sa pa n ∷ σ) (within sa pa n σ g)
+      paren_refused m x k a = subst (λ (y : Result ℕ Misread). AtomPost X t d need at y) (sym k)
+          (λ sa pa n σ g. ap read_of (opened sa pa n σ g) ∙ a (opening nothing) nothing (paren sa pa n ∷ σ) (within sa pa n σ g))
 
-      pub paren_closed : (e : ℕ) → JoinPost X continues_sum t (d + 1) (at + 1) (End e) → e < length t → get_or t e 0 ≡ 41 → AtomPost X t d need at (End (e + 1))
+      pub paren_closed : (e : ℕ) → JoinPost X continues_sum t i (at + 1) (Ok e) → e < length t → get_or t e 0 ≡ 41 → AtomPost X t d need at (Ok (e + 1))
       unfolding AtomPost JoinPost close
       paren_closed e a k c = (
         omega (arith, a.0),
@@ -309,40 +343,41 @@ module _ (X : Lexicon) where
             ),
       )
 
-      pub paren_ends : (e : ℕ) → JoinPost X continues_sum t (d + 1) (at + 1) (End e) → e ≡ length t → AtomPost X t d need at (Bad e)
-      unfolding AtomPost JoinPost final
-      paren_ends e a k = λ sa pa n σ g.
+      pub paren_ends : (e : ℕ) (m : Misread) (x : Result ℕ Misread) → x ≡ Err m → JoinPost X continues_sum t i (at + 1) (Ok e)
+          → (length t ≤ e) × (m ≡ misread Fault.NotPolicy e) → AtomPost X t d need at x
+      unfolding AtomPost JoinPost final read_of
+      paren_ends e m x f a k = subst (λ (y : Result ℕ Misread). AtomPost X t d need at y) (sym f) (λ sa pa n σ g.
           let u = a.3 (opening nothing) nothing (paren sa pa n ∷ σ) (within sa pa n σ g) in
-          opened sa pa n σ g ∙ u.3 ∙ scan_end _ e k
+          ap read_of (opened sa pa n σ g ∙ u.3 ∙ scan_end _ e k.0) ∙ ap Err (sym k.1))
 
-      pub paren_stops : (e : ℕ) → JoinPost X continues_sum t (d + 1) (at + 1) (End e) → e < length t → (get_or t e 0 ≡ 41 → ⊥) → AtomPost X t d need at (Bad e)
-      unfolding AtomPost JoinPost
-      paren_stops e a k c = λ sa pa n σ g.
+      pub paren_stops : (e : ℕ) (m : Misread) → JoinPost X continues_sum t i (at + 1) (Ok e) → e < length t → (get_or t e 0 ≡ 41 → ⊥)
+          → m ≡ misread Fault.NotPolicy e → AtomPost X t d need at (Err m)
+      unfolding AtomPost JoinPost read_of
+      paren_stops e m a k c f = λ sa pa n σ g.
           let u = a.3 (opening nothing) nothing (paren sa pa n ∷ σ) (within sa pa n σ g) in
-          opened sa pa n σ g ∙ u.3 ∙ scan_stop _ e k (step_after u.2 u.0 u.1 (paren sa pa n ∷ σ) _ (a.2 k) c)
+          ap read_of (opened sa pa n σ g ∙ u.3 ∙ scan_stop _ e k (step_after u.2 u.0 u.1 (paren sa pa n ∷ σ) _ (a.2 k) c)) ∙ ap Err (sym f)
 
     -- the whole text
     whole_from : (x : Out) → scan_at X t start 0 ≡ x → reads X t ≡ x
     unfolding scan_at reads
     whole_from x e = e
 
-    pub whole_refused : (x : Read) → ReadRefused x → JoinPost X continues_sum t 0 0 x → x ≡ read_of (length t) (reads X t)
-    unfolding JoinPost nesting read_of
-    whole_refused (End e) r a = absurd (r e refl)
-    whole_refused (Bad i) r a = sym (ap (read_of (length t)) (whole_from (bad i) (a (opening nothing) nothing [] refl)))
-    whole_refused (Deep i) r a = sym (ap (read_of (length t)) (whole_from (deep i) (a (opening nothing) nothing [] refl)))
+    pub whole_refused : (m : Misread) → JoinPost X continues_sum t 0 0 (Err m) → Err m ≡ read_of (reads X t)
+    unfolding JoinPost nesting
+    whole_refused m a = sym (ap read_of (whole_from _ refl) ∙ a (opening nothing) nothing [] refl)
 
-    pub whole_ends : (e : ℕ) → JoinPost X continues_sum t 0 0 (End e) → e ≡ length t → End e ≡ read_of (length t) (reads X t)
+    pub whole_ends : (e : ℕ) → JoinPost X continues_sum t 0 0 (Ok e) → e ≡ length t → Ok tt ≡ read_of (reads X t)
     unfolding JoinPost nesting read_of final
     whole_ends e a k =
         let u = a.3 (opening nothing) nothing [] refl in
-        ap End k ∙ sym (ap (read_of (length t)) (whole_from (accept (join_term u.0 (join_seq u.1 u.2)))
-        (u.3 ∙ scan_end (post u.2 u.0 u.1 []) e k)))
+        sym (ap read_of (whole_from (accept (join_term u.0 (join_seq u.1 u.2)))
+        (u.3 ∙ scan_end (post u.2 u.0 u.1 []) e (omega arith))))
 
-    pub whole_stops : (e : ℕ) → JoinPost X continues_sum t 0 0 (End e) → (e ≡ length t → ⊥) → Bad e ≡ read_of (length t) (reads X t)
+    pub whole_stops : (e : ℕ) (m : Misread) → JoinPost X continues_sum t 0 0 (Ok e) → (e ≡ length t → ⊥) → m ≡ misread Fault.NotPolicy e
+        → Err m ≡ read_of (reads X t)
     unfolding JoinPost nesting read_of
-    whole_stops e a k =
+    whole_stops e m a k f =
         let u = a.3 (opening nothing) nothing [] refl in
         let l : e < length t = omega (arith, a.1) in
-        sym (ap (read_of (length t)) (whole_from (bad e)
+        ap Err f ∙ sym (ap read_of (whole_from (bad e)
         (u.3 ∙ scan_stop (post u.2 u.0 u.1 []) e l (step_after_all u.2 u.0 u.1 _ (a.2 l)))))

@@ -14,10 +14,10 @@ use Rattle.policy_text.specs.Lexicon.{Lexicon, Lawful, Bounds}
 use Rattle.policy_text.specs.Grammar.{Sum, Completable, NotPolicy, TooDeep}
 use Rattle.policy_text.specs.Machine.{Out, accept, bad, deep, reads}
 use Rattle.policy_text.specs.Reading.{first, does_offend, rules, reading_of, reading}
-use Rattle.policy_text.specs.Answers.{NoField, NotPredicate, Says}
-use Rattle.policy_text.specs.declared.Found.{Found}
-use Rattle.policy_text.specs.declared.Found.TheVariants.{Nowhere, At}
-use Rattle.policy_text.specs.declared.Reading.{Reading}
+use Rattle.policy_text.specs.Answers.{NoField, NotPredicate, Faulty, Says}
+use Rattle.std.specs.Prelude.{Option, Some, None, Ok, Err}
+use Rattle.policy_text.specs.Misreads.{misread, Reading}
+use Rattle.policy_text.specs.declared.Fault.{Fault}
 use Rattle.policy_text.proofs.Sound.{sound}
 use Rattle.policy_text.proofs.Complete.{complete}
 use Rattle.policy_text.proofs.Offsets.{not_policy, too_deep}
@@ -70,26 +70,26 @@ module _ {X : Lexicon} (laws : Lawful X) where
 
   module _ (k : ℕ) (B : Bounds X k) (t : List ℕ) where
     -- refusal 7, not a policy
-    only_bad : (i : ℕ) → NotPolicy X t i → reading X k t ≡ Reading.NotPolicy i
+    only_bad : (i : ℕ) → NotPolicy X t i → reading X k t ≡ Err (misread Fault.NotPolicy i)
     unfolding reading reading_of
     only_bad i a = by (reads X t) refl
       where
-        by : (o : Out) → reads X t ≡ o → reading_of X k t o ≡ Reading.NotPolicy i
+        by : (o : Out) → reads X t ≡ o → reading_of X k t o ≡ Err (misread Fault.NotPolicy i)
         by (accept p) e = absurd (a.not_whole 32 p (sound laws t p e))
-        by (bad j) e = ap Reading.NotPolicy (one_place t j i (of_bad (not_policy laws t j e)) (of_bad a))
+        by (bad j) e = ap (λ (n : ℕ). Err (misread Fault.NotPolicy n)) (one_place t j i (of_bad (not_policy laws t j e)) (of_bad a))
         by (deep j) e = absurd (never_both t i j a (too_deep laws t j e))
 
     -- refusal 9, nested too deep
-    only_deep : (i : ℕ) → TooDeep X t i → reading X k t ≡ Reading.TooDeep i
+    only_deep : (i : ℕ) → TooDeep X t i → reading X k t ≡ Err (misread Fault.TooDeep i)
     unfolding reading reading_of
     only_deep i a = by (reads X t) refl
       where
-        by : (o : Out) → reads X t ≡ o → reading_of X k t o ≡ Reading.TooDeep i
+        by : (o : Out) → reads X t ≡ o → reading_of X k t o ≡ Err (misread Fault.TooDeep i)
         by (accept p) e = absurd (a.cannot (whole_extends 32 t p (suc i) (sound laws t p e)))
         by (bad j) e = absurd (never_both t j i (not_policy laws t j e) a)
-        by (deep j) e = ap Reading.TooDeep (one_place t j i (of_deep (too_deep laws t j e)) (of_deep a))
+        by (deep j) e = ap (λ (n : ℕ). Err (misread Fault.TooDeep n)) (one_place t j i (of_deep (too_deep laws t j e)) (of_deep a))
 
-    ruled : (p : Policy) (f g : Found) → Sum X 32 t p → first (X.is_outside k) 0 t ≡ f → first (does_offend X) 0 t ≡ g → reading X k t ≡ rules f g
+    ruled : (p : Policy) (f g : Option ℕ) → Sum X 32 t p → first (X.is_outside k) 0 t ≡ f → first (does_offend X) 0 t ≡ g → reading X k t ≡ rules f g
     unfolding reading reading_of
     ruled p f g a x y = ap (reading_of X k t) (complete laws t p a) ∙ rw (x, y) refl
 
@@ -121,12 +121,16 @@ module _ {X : Lexicon} (laws : Lawful X) where
             let x = negated_found laws (begins laws a.follows j (omega (arith, a.inside))) e in
             true≢false (sym (a.none_before j x.0 h x.1) ∙ x.2)
 
-    pub only : (r : Reading) → Says X k t r → reading X k t ≡ r
-    unfolding Says rules
-    only Reading.Policy a = reads_policy laws k B t a
-    only (Reading.NotPolicy i) a = only_bad i a
-    only (Reading.TooDeep i) a = only_deep i a
-    only (Reading.NoField i) a = ruled a.policy (At i) (first (does_offend X) 0 t) a.follows (first_is (X.is_outside k) t i (first_field i a)) refl
-    only (Reading.NotPredicate i) a = ruled a.policy Nowhere (At i) a.follows
+    only_faulty : (f : Fault) (i : ℕ) → Faulty X k t f i → reading X k t ≡ Err (misread f i)
+    unfolding Faulty rules
+    only_faulty Fault.NotPolicy i a = only_bad i a
+    only_faulty Fault.TooDeep i a = only_deep i a
+    only_faulty Fault.NoField i a = ruled a.policy (Some i) (first (does_offend X) 0 t) a.follows (first_is (X.is_outside k) t i (first_field i a)) refl
+    only_faulty Fault.NotPredicate i a = ruled a.policy None (Some i) a.follows
         (first_nowhere (X.is_outside k) t (sym (finds laws (has_fields_below k) (X.is_outside k) (fields_found laws k B) a.follows []) ∙ a.below))
         (first_is (does_offend X) t i (first_negation i a))
+
+    pub only : (r : Reading) → Says X k t r → reading X k t ≡ r
+    unfolding Says
+    only (Ok u) a = reads_policy laws k B t a
+    only (Err m) a = only_faulty m.fault m.at a

@@ -15,10 +15,8 @@ use Rattle.policy_text.specs.Lexicon.{Lexicon, Lawful, Bounds}
 use Rattle.policy_text.specs.Grammar.{Sum}
 use Rattle.policy_text.specs.Machine.{Out, accept, bad, deep, reads}
 use Rattle.policy_text.specs.Reading.{first, is_clean, does_offend, rules, reading_of, reading}
-use Rattle.policy_text.specs.Answers.{Names, names_test, names_assign, Negates, negated, NoField, NotPredicate, KeepsRules, Says, tree_of, tree}
-use Rattle.policy_text.specs.declared.Found.{Found}
-use Rattle.policy_text.specs.declared.Found.TheVariants.{Nowhere, At}
-use Rattle.policy_text.specs.declared.Reading.{Reading}
+use Rattle.policy_text.specs.Answers.{Names, names_test, names_assign, Negates, negated, NoField, NotPredicate, KeepsRules, Faulty, Says, tree_of, tree}
+use Rattle.std.specs.Prelude.{Option, Some, None, Ok}
 use Rattle.policy_text.proofs.Sound.{sound}
 use Rattle.policy_text.proofs.Complete.{complete}
 use Rattle.policy_text.proofs.Offsets.{not_policy, too_deep}
@@ -87,11 +85,11 @@ module _ {X : Lexicon} (laws : Lawful X) where
           none_before = λ j q h y. not_false (is_predicate q) (sym (negated_other y) ∙ f.before j h);
         }
 
-    ruled : (f g : Found) → FirstOf (X.is_outside k) 0 t f → FirstOf (does_offend X) 0 t g → Says X k t (rules f g)
-    unfolding Says rules FirstOf
-    ruled (At i) g x y = no_field i (subst (λ (m : ℕ). FirstAt (X.is_outside k) t m) (sym (x.1 ∙ zero-add x.0)) x.2)
-    ruled Nowhere (At i) x y = not_predicate i x (subst (λ (m : ℕ). FirstAt (does_offend X) t m) (sym (y.1 ∙ zero-add y.0)) y.2)
-    ruled Nowhere Nowhere x y = record {
+    ruled : (f g : Option ℕ) → FirstOf (X.is_outside k) 0 t f → FirstOf (does_offend X) 0 t g → Says X k t (rules f g)
+    unfolding Says Faulty rules FirstOf
+    ruled (Some i) g x y = no_field i (subst (λ (m : ℕ). FirstAt (X.is_outside k) t m) (sym (x.1 ∙ zero-add x.0)) x.2)
+    ruled None (Some i) x y = not_predicate i x (subst (λ (m : ℕ). FirstAt (does_offend X) t m) (sym (y.1 ∙ zero-add y.0)) y.2)
+    ruled None None x y = record {
       policy = p;
       follows = a;
       below = finds laws (has_fields_below k) (X.is_outside k) (fields_found laws k B) a [] ∙ x;
@@ -99,7 +97,7 @@ module _ {X : Lexicon} (laws : Lawful X) where
     }
 
   pub says : (k : ℕ) → Bounds X k → (t : List ℕ) → Says X k t (reading X k t)
-  unfolding reading Says reading_of
+  unfolding reading Says Faulty reading_of
   says k B t = by (reads X t) refl
     where
       by : (o : Out) → reads X t ≡ o → Says X k t (reading_of X k t o)
@@ -108,16 +106,16 @@ module _ {X : Lexicon} (laws : Lawful X) where
       by (bad i) e = not_policy laws t i e
       by (deep i) e = too_deep laws t i e
 
-  pub reads_policy : (k : ℕ) → Bounds X k → (t : List ℕ) → KeepsRules X k t → reading X k t ≡ Reading.Policy
+  pub reads_policy : (k : ℕ) → Bounds X k → (t : List ℕ) → KeepsRules X k t → reading X k t ≡ Ok tt
   unfolding reading reading_of rules
   reads_policy k B t h =
       ap (reading_of X k t) (complete laws t h.policy h.follows)
-      ∙ ap (λ (f : Found). rules f (first (does_offend X) 0 t))
+      ∙ ap (λ (f : Option ℕ). rules f (first (does_offend X) 0 t))
       (first_nowhere (X.is_outside k) t (sym (finds laws (has_fields_below k) (X.is_outside k) (fields_found laws k B) h.follows []) ∙ h.below))
-      ∙ ap (λ (f : Found). rules Nowhere f)
+      ∙ ap (λ (f : Option ℕ). rules None f)
       (first_nowhere (does_offend X) t (sym (finds laws only_negates_predicates (does_offend X) (negations_found laws) h.follows []) ∙ h.negates_predicates))
 
-  pub keeps_rules : (k : ℕ) → Bounds X k → (t : List ℕ) → (reading X k t ≡ Reading.Policy) ↔ KeepsRules X k t
+  pub keeps_rules : (k : ℕ) → Bounds X k → (t : List ℕ) → (reading X k t ≡ Ok tt) ↔ KeepsRules X k t
   unfolding Says
   keeps_rules k B t = (λ e. subst (Says X k t) e (says k B t), reads_policy k B t)
 
@@ -127,7 +125,7 @@ module _ {X : Lexicon} (laws : Lawful X) where
   tree_is t p a = ap tree_of (complete laws t p a)
 
   -- a text that reads as a policy follows the grammar with its tree, which keeps the rules
-  pub tree_keeps : (k : ℕ) → Bounds X k → (t : List ℕ) → reading X k t ≡ Reading.Policy
+  pub tree_keeps : (k : ℕ) → Bounds X k → (t : List ℕ) → reading X k t ≡ Ok tt
       → Sum X 32 t (tree X t) × (has_fields_below k (tree X t) ≡ true) × (only_negates_predicates (tree X t) ≡ true)
   tree_keeps k B t e =
       let h = (keeps_rules k B t).0 e in

@@ -10,52 +10,54 @@ use Rattle.policy_text.specs.Machine.{scan, final, byte_step, onward, mid_step, 
 use Rattle.policy_text.specs.Machine.{join_term, sum_before, mix_of, negs, nesting, leaf, reads}
 use Rattle.policy_text.specs.Reading.{first, is_test, open_after, is_clean_inside, is_clean, does_offend, rules, reading_of, reading}
 use Rattle.policy_text.specs.Answers.{tree_of, tree}
-use Rattle.policy_text.specs.declared.Reading.{Reading}
+use Rattle.std.specs.Prelude.{Ok, Err}
+use Rattle.policy_text.specs.Misreads.{misread, Reading}
+use Rattle.policy_text.specs.declared.Fault.{Fault}
 
 abbrev table : List (ℕ × List ℕ × Reading)
 table =
     -- empty; `x00=1`; `!x0:=1`; `x0=5`: 01's own
-    (1, [], Reading.NotPolicy 0)
-    ∷ (1, 120 ∷ 48 ∷ 48 ∷ 61 ∷ 49 ∷ [], Reading.NotPolicy 2)
-    ∷ (1, 33 ∷ 120 ∷ 48 ∷ 58 ∷ 61 ∷ 49 ∷ [], Reading.NotPredicate 0)
-    ∷ (1, 120 ∷ 48 ∷ 61 ∷ 53 ∷ [], Reading.NotPolicy 3)
+    (1, [], Err (misread Fault.NotPolicy 0))
+    ∷ (1, 120 ∷ 48 ∷ 48 ∷ 61 ∷ 49 ∷ [], Err (misread Fault.NotPolicy 2))
+    ∷ (1, 33 ∷ 120 ∷ 48 ∷ 58 ∷ 61 ∷ 49 ∷ [], Err (misread Fault.NotPredicate 0))
+    ∷ (1, 120 ∷ 48 ∷ 61 ∷ 53 ∷ [], Err (misread Fault.NotPolicy 3))
     -- `x0=0+x0=1`
-    ∷ (1, 120 ∷ 48 ∷ 61 ∷ 48 ∷ 43 ∷ 120 ∷ 48 ∷ 61 ∷ 49 ∷ [], Reading.Policy)
+    ∷ (1, 120 ∷ 48 ∷ 61 ∷ 48 ∷ 43 ∷ 120 ∷ 48 ∷ 61 ∷ 49 ∷ [], Ok tt)
     -- `(x0=1`: it ends too soon
-    ∷ (1, 40 ∷ 120 ∷ 48 ∷ 61 ∷ 49 ∷ [], Reading.NotPolicy 5)
+    ∷ (1, 40 ∷ 120 ∷ 48 ∷ 61 ∷ 49 ∷ [], Err (misread Fault.NotPolicy 5))
     -- `x10=1` for 10 fields and for 11
-    ∷ (10, 120 ∷ 49 ∷ 48 ∷ 61 ∷ 49 ∷ [], Reading.NoField 0)
-    ∷ (11, 120 ∷ 49 ∷ 48 ∷ 61 ∷ 49 ∷ [], Reading.Policy)
+    ∷ (10, 120 ∷ 49 ∷ 48 ∷ 61 ∷ 49 ∷ [], Err (misread Fault.NoField 0))
+    ∷ (11, 120 ∷ 49 ∷ 48 ∷ 61 ∷ 49 ∷ [], Ok tt)
     -- `!x0:=1;x3=0`: 5 comes before 8
-    ∷ (1, 33 ∷ 120 ∷ 48 ∷ 58 ∷ 61 ∷ 49 ∷ 59 ∷ 120 ∷ 51 ∷ 61 ∷ 48 ∷ [], Reading.NoField 7)
+    ∷ (1, 33 ∷ 120 ∷ 48 ∷ 58 ∷ 61 ∷ 49 ∷ 59 ∷ 120 ∷ 51 ∷ 61 ∷ 48 ∷ [], Err (misread Fault.NoField 7))
     -- `!x0=1*`: the star is of the negation, not of its operand
-    ∷ (1, 33 ∷ 120 ∷ 48 ∷ 61 ∷ 49 ∷ 42 ∷ [], Reading.Policy)
+    ∷ (1, 33 ∷ 120 ∷ 48 ∷ 61 ∷ 49 ∷ 42 ∷ [], Ok tt)
     -- `1;!(0;(1*))`
-    ∷ (1, 49 ∷ 59 ∷ 33 ∷ 40 ∷ 48 ∷ 59 ∷ 40 ∷ 49 ∷ 42 ∷ 41 ∷ 41 ∷ [], Reading.NotPredicate 2)
+    ∷ (1, 49 ∷ 59 ∷ 33 ∷ 40 ∷ 48 ∷ 59 ∷ 40 ∷ 49 ∷ 42 ∷ 41 ∷ 41 ∷ [], Err (misread Fault.NotPredicate 2))
     -- 32 `!` and `1`; 33 `!` and `1`; 33 `(`
-    ∷ (1, replicate 32 33 ++ (49 ∷ []), Reading.Policy)
-    ∷ (1, replicate 33 33 ++ (49 ∷ []), Reading.TooDeep 32)
-    ∷ (1, replicate 33 40, Reading.TooDeep 32)
+    ∷ (1, replicate 32 33 ++ (49 ∷ []), Ok tt)
+    ∷ (1, replicate 33 33 ++ (49 ∷ []), Err (misread Fault.TooDeep 32))
+    ∷ (1, replicate 33 40, Err (misread Fault.TooDeep 32))
     -- 32 `(`, `0` and `(`: 7 and 9 on one offset
-    ∷ (1, replicate 32 40 ++ (48 ∷ 40 ∷ []), Reading.NotPolicy 33)
+    ∷ (1, replicate 32 40 ++ (48 ∷ 40 ∷ []), Err (misread Fault.NotPolicy 33))
     -- 02's: `!(x0=0&T)`; `!T`; `!(1;(0+T))`; `!x0=1&T`: the operand of the `!` is `x0=1`; `!x0=1&!T`; `x1=1-!T`: 5 comes before 8
-    ∷ (1, 33 ∷ 40 ∷ 120 ∷ 48 ∷ 61 ∷ 48 ∷ 38 ∷ 84 ∷ 41 ∷ [], Reading.NotPredicate 0)
-    ∷ (1, 33 ∷ 84 ∷ [], Reading.NotPredicate 0)
-    ∷ (1, 33 ∷ 40 ∷ 49 ∷ 59 ∷ 40 ∷ 48 ∷ 43 ∷ 84 ∷ 41 ∷ 41 ∷ [], Reading.NotPredicate 0)
-    ∷ (1, 33 ∷ 120 ∷ 48 ∷ 61 ∷ 49 ∷ 38 ∷ 84 ∷ [], Reading.Policy)
-    ∷ (1, 33 ∷ 120 ∷ 48 ∷ 61 ∷ 49 ∷ 38 ∷ 33 ∷ 84 ∷ [], Reading.NotPredicate 6)
-    ∷ (1, 120 ∷ 49 ∷ 61 ∷ 49 ∷ 45 ∷ 33 ∷ 84 ∷ [], Reading.NoField 0)
+    ∷ (1, 33 ∷ 40 ∷ 120 ∷ 48 ∷ 61 ∷ 48 ∷ 38 ∷ 84 ∷ 41 ∷ [], Err (misread Fault.NotPredicate 0))
+    ∷ (1, 33 ∷ 84 ∷ [], Err (misread Fault.NotPredicate 0))
+    ∷ (1, 33 ∷ 40 ∷ 49 ∷ 59 ∷ 40 ∷ 48 ∷ 43 ∷ 84 ∷ 41 ∷ 41 ∷ [], Err (misread Fault.NotPredicate 0))
+    ∷ (1, 33 ∷ 120 ∷ 48 ∷ 61 ∷ 49 ∷ 38 ∷ 84 ∷ [], Ok tt)
+    ∷ (1, 33 ∷ 120 ∷ 48 ∷ 61 ∷ 49 ∷ 38 ∷ 33 ∷ 84 ∷ [], Err (misread Fault.NotPredicate 6))
+    ∷ (1, 120 ∷ 49 ∷ 61 ∷ 49 ∷ 45 ∷ 33 ∷ 84 ∷ [], Err (misread Fault.NoField 0))
     -- `!(x0=0&1-0^1)`: the three signs may stand under `!`
-    ∷ (1, 33 ∷ 40 ∷ 120 ∷ 48 ∷ 61 ∷ 48 ∷ 38 ∷ 49 ∷ 45 ∷ 48 ∷ 94 ∷ 49 ∷ 41 ∷ [], Reading.Policy)
+    ∷ (1, 33 ∷ 40 ∷ 120 ∷ 48 ∷ 61 ∷ 48 ∷ 38 ∷ 49 ∷ 45 ∷ 48 ∷ 94 ∷ 49 ∷ 41 ∷ [], Ok tt)
     -- `-1`; `1&-1`; `x0=1&`; `T=`; `t`
-    ∷ (1, 45 ∷ 49 ∷ [], Reading.NotPolicy 0)
-    ∷ (1, 49 ∷ 38 ∷ 45 ∷ 49 ∷ [], Reading.NotPolicy 2)
-    ∷ (1, 120 ∷ 48 ∷ 61 ∷ 49 ∷ 38 ∷ [], Reading.NotPolicy 5)
-    ∷ (1, 84 ∷ 61 ∷ [], Reading.NotPolicy 1)
-    ∷ (1, 116 ∷ [], Reading.NotPolicy 0)
+    ∷ (1, 45 ∷ 49 ∷ [], Err (misread Fault.NotPolicy 0))
+    ∷ (1, 49 ∷ 38 ∷ 45 ∷ 49 ∷ [], Err (misread Fault.NotPolicy 2))
+    ∷ (1, 120 ∷ 48 ∷ 61 ∷ 49 ∷ 38 ∷ [], Err (misread Fault.NotPolicy 5))
+    ∷ (1, 84 ∷ 61 ∷ [], Err (misread Fault.NotPolicy 1))
+    ∷ (1, 116 ∷ [], Err (misread Fault.NotPolicy 0))
     -- `T*`, and 31 `(` and `1&(T)`: a sign does not nest
-    ∷ (1, 84 ∷ 42 ∷ [], Reading.Policy)
-    ∷ (1, replicate 31 40 ++ ((49 ∷ 38 ∷ 40 ∷ 84 ∷ 41 ∷ []) ++ replicate 31 41), Reading.Policy)
+    ∷ (1, 84 ∷ 42 ∷ [], Ok tt)
+    ∷ (1, replicate 31 40 ++ ((49 ∷ 38 ∷ 40 ∷ 84 ∷ 41 ∷ []) ++ replicate 31 41), Ok tt)
     ∷ []
 
 worked : map (λ c. reading x_forms c.0 c.1) table ≡ map (λ c. c.2) table

@@ -1,7 +1,7 @@
 -- The x forms are a lexicon: by the bytes of N, of which there are at most two.
 use mathlib.Core.Path.{◌≡◌, refl, sym, ap, ◌∙◌}
 use mathlib.Core.Logic.{◌⊎◌, inl, inr}
-use Prim.Native.Nat.{ℕ, ◌+◌, ◌-◌, ◌*◌, ◌≤◌}
+use Prim.Native.Nat.{ℕ, ◌+◌, ◌-◌, ◌*◌, ◌≤◌, ◌<◌}
 use native.Mathlib.Omega.{arith}
 use mathlib.Core.List.{List, [], ◌∷◌, ◌++◌}
 use mathlib.Core.Bool.{Bool, true, false, cond, ◌&&◌, and-false, true≢false}
@@ -28,6 +28,13 @@ is_tens b h = let p = both (leb 49 b) (leb b 57) h in (leb-true 49 b p.0, leb-tr
 
 pub digit_true : (b : ℕ) → 48 ≤ b → b ≤ 57 → is_digit_byte b ≡ true
 digit_true b h k = simp (le-leb _ _ h, le-leb _ _ k)
+
+pub digit_false : (b : ℕ) → b < 48 ⊎ 57 < b → is_digit_byte b ≡ false
+digit_false b h = by (is_digit_byte b) refl
+  where
+    by : (x : Bool) → is_digit_byte b ≡ x → x ≡ false
+    by true e = let d = is_digit b e in absurd (omega (arith, d.0, d.1, h))
+    by false e = refl
 
 pub tens_true : (b : ℕ) → 49 ≤ b → b ≤ 57 → has_tens b ≡ true
 tens_true b h k = simp (le-leb _ _ h, le-leb _ _ k)
@@ -176,9 +183,6 @@ one_whole a h = ap (λ (c : Bool). cond c (field (a - 48)) unspelt) h
 pub two_whole : (a b : ℕ) → has_tens a ≡ true → is_digit_byte b ≡ true → is_x_whole (120 ∷ a ∷ b ∷ []) ≡ field ((a - 48) * 10 + (b - 48))
 unfolding is_x_whole
 two_whole a b h k = ap (λ (c : Bool). cond c (field ((a - 48) * 10 + (b - 48))) unspelt) (all_true (has_tens a) (is_digit_byte b) h k)
-
-pub digit_tens : (a : ℕ) → (a ≡ 48 → ⊥) → is_digit_byte a ≡ true → has_tens a ≡ true
-digit_tens a e h = let d = is_digit a h in tens_true a (omega (arith, d.0)) d.1
 
 -- a byte that is no digit makes no x form of one digit longer
 pub one_closed : (a c : ℕ) → is_digit_byte c ≡ false → does_x_begin (120 ∷ a ∷ c ∷ []) ≡ false

@@ -1,26 +1,21 @@
 -- Document 01's number and values for every case of a reading; and what a reading says of a text, in terms of the grammar and of its tree alone.
-use Rattle.std.specs.Prelude.{◌≡◌, ℕ, ◌≤◌, ◌<◌, List, [], ◌∷◌, ◌++◌, true, false, length, drop}
+use Rattle.std.specs.Prelude.{◌≡◌, ℕ, ◌≤◌, ◌<◌, List, [], ◌∷◌, ◌++◌, true, false, length, drop, Ok, Err}
 use Rattle.model.specs.Policies.{Policy, is_predicate, only_negates_predicates, has_fields_below}
 use Rattle.policy_text.specs.Lexicon.{Lexicon}
 use Rattle.policy_text.specs.Grammar.{Atom, Sum, NotPolicy, TooDeep}
 use Rattle.policy_text.specs.Machine.{Out, accept, bad, deep, reads}
-use Rattle.policy_text.specs.declared.Reading.{Reading}
+use Rattle.policy_text.specs.Misreads.{fault_number, Reading}
+use Rattle.policy_text.specs.declared.Fault.{Fault}
 
 -- 01, "What each operation declines, in order": the refusal's number, or 0
 abbrev pub reading_refusal : Reading → ℕ
-reading_refusal Reading.Policy = 0
-reading_refusal (Reading.NotPolicy i) = 7
-reading_refusal (Reading.TooDeep i) = 9
-reading_refusal (Reading.NoField i) = 5
-reading_refusal (Reading.NotPredicate i) = 8
+reading_refusal (Ok u) = 0
+reading_refusal (Err m) = fault_number m.fault
 
 -- the refusal's offset; nothing with a policy
 abbrev pub reading_values : Reading → List ℕ
-reading_values Reading.Policy = []
-reading_values (Reading.NotPolicy i) = i ∷ []
-reading_values (Reading.TooDeep i) = i ∷ []
-reading_values (Reading.NoField i) = i ∷ []
-reading_values (Reading.NotPredicate i) = i ∷ []
+reading_values (Ok u) = []
+reading_values (Err m) = m.at ∷ []
 
 -- a text begins with the spelling of a field, before the `=` of a test or the `:` of an assignment
 pub data Names (X : Lexicon) (n : ℕ) : List ℕ → Type 0 where
@@ -62,12 +57,16 @@ pub record KeepsRules (X : Lexicon) (k : ℕ) (t : List ℕ) : Type 0 where
   pub below : has_fields_below k policy ≡ true
   pub negates_predicates : only_negates_predicates policy ≡ true
 
+-- what a fault at an offset says of a text
+unfoldable pub Faulty : Lexicon → ℕ → List ℕ → Fault → ℕ → Type 0
+Faulty X k t Fault.NotPolicy i = NotPolicy X t i
+Faulty X k t Fault.TooDeep i = TooDeep X t i
+Faulty X k t Fault.NoField i = NoField X k t i
+Faulty X k t Fault.NotPredicate i = NotPredicate X k t i
+
 unfoldable pub Says : Lexicon → ℕ → List ℕ → Reading → Type 0
-Says X k t Reading.Policy = KeepsRules X k t
-Says X k t (Reading.NotPolicy i) = NotPolicy X t i
-Says X k t (Reading.TooDeep i) = TooDeep X t i
-Says X k t (Reading.NoField i) = NoField X k t i
-Says X k t (Reading.NotPredicate i) = NotPredicate X k t i
+Says X k t (Ok u) = KeepsRules X k t
+Says X k t (Err m) = Faulty X k t m.fault m.at
 
 -- the policy of a text that follows the grammar
 unfoldable pub tree_of : Out → Policy

@@ -1,5 +1,6 @@
 pub mod Lexicon
 pub mod XForms
+pub mod Misreads
 pub mod Grammar
 pub mod Machine
 pub mod Posts

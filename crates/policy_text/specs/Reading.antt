@@ -1,16 +1,15 @@
 -- What a text reads as for k fields, from its bytes, in the order of 01, "What each operation declines, in order": "7 .. or 9 ..;
 -- 5, at the first `x` whose N is k or more; 8, at the first offending `!`".
-use Rattle.std.specs.Prelude.{ℕ, ◌+◌, ◌-◌, List, [], ◌∷◌, Bool, true, false, cond, not, ◌&&◌, eqb}
+use Rattle.std.specs.Prelude.{ℕ, ◌+◌, ◌-◌, List, [], ◌∷◌, Bool, true, false, cond, not, ◌&&◌, eqb, Option, Some, None, Ok, Err}
 use Rattle.policy_text.specs.Lexicon.{Lexicon}
 use Rattle.policy_text.specs.Machine.{Out, accept, bad, deep, reads}
-use Rattle.policy_text.specs.declared.Found.{Found}
-use Rattle.policy_text.specs.declared.Found.TheVariants.{Nowhere, At}
-use Rattle.policy_text.specs.declared.Reading.{Reading}
+use Rattle.policy_text.specs.Misreads.{misread, Reading}
+use Rattle.policy_text.specs.declared.Fault.{Fault}
 
 -- the first offset, from i on, where the text that is left passes a test
-unfoldable pub first : (List ℕ → Bool) → ℕ → List ℕ → Found
-first test i [] = Nowhere
-first test i (b ∷ s) = cond (test (b ∷ s)) (At i) (first test (i + 1) s)
+unfoldable pub first : (List ℕ → Bool) → ℕ → List ℕ → Option ℕ
+first test i [] = None
+first test i (b ∷ s) = cond (test (b ∷ s)) (Some i) (first test (i + 1) s)
 
 -- inside a spelling: a test, so `=` comes before any `:`
 unfoldable pub is_test : List ℕ → Bool
@@ -38,14 +37,14 @@ does_offend X [] = false
 does_offend X (b ∷ s) = eqb b 33 && not (is_clean X s)
 
 -- 5, then 8
-unfoldable pub rules : Found → Found → Reading
-rules (At i) found = Reading.NoField i
-rules Nowhere (At i) = Reading.NotPredicate i
-rules Nowhere Nowhere = Reading.Policy
+unfoldable pub rules : Option ℕ → Option ℕ → Reading
+rules (Some i) found = Err (misread Fault.NoField i)
+rules None (Some i) = Err (misread Fault.NotPredicate i)
+rules None None = Ok tt
 
 unfoldable pub reading_of : Lexicon → ℕ → List ℕ → Out → Reading
-reading_of X k t (bad i) = Reading.NotPolicy i
-reading_of X k t (deep i) = Reading.TooDeep i
+reading_of X k t (bad i) = Err (misread Fault.NotPolicy i)
+reading_of X k t (deep i) = Err (misread Fault.TooDeep i)
 reading_of X k t (accept p) = rules (first (X.is_outside k) 0 t) (first (does_offend X) 0 t)
 
 unfoldable pub reading : Lexicon → ℕ → List ℕ → Reading

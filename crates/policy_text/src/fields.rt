@@ -1,5 +1,5 @@
 // Does a text name a field that is not there: 5.
-ghost use Rattle.std.specs.Prelude.{◌≡◌, ℕ, ◌-◌, ◌≤◌, ◌<◌, length, drop};
+ghost use Rattle.std.specs.Prelude.{◌≡◌, ℕ, ◌-◌, ◌<◌};
 ghost use Rattle.policy_text.specs.XForms.{field_number, is_no_field};
 ghost use Rattle.policy_text.specs.Reading.{first};
 
@@ -8,53 +8,34 @@ fn value(b: u8) -> u32
     ensures value { result ≡ b - 48 }
     ensures upper_bound { result < 256 }
 {
-    if b < 48 {
-        return 0;
-    }
-    (b - 48) as u32
+    u32::from(b.saturating_sub(b'0'))
 }
 
-// N at an offset.
-fn number_at(text: &[u8], at: usize) -> u32
-    requires { at ≤ length text.now }
-    ensures { result ≡ field_number (drop at text.now) }
+// The N that what is left of a text begins with.
+fn number(rest: &[u8]) -> u32
+    ensures { result ≡ field_number rest.now }
 {
-    if at == text.len() {
-        return 0;
+    match rest {
+        [] => 0,
+        [a] => value(*a),
+        [a, b, ..] if b.is_ascii_digit() => value(*a) * 10 + value(*b),
+        [a, _, ..] => value(*a),
     }
-    let a = value(text[at]);
-    let next = at + 1;
-    if next == text.len() {
-        return a;
-    }
-    let b = text[next];
-    if crate::is_digit(b) {
-        return a * 10 + value(b);
-    }
-    a
 }
 
 // An `x` before an N that is k or more?
-fn no_field(text: &[u8], at: usize, k: u32) -> bool
-    requires { at < length text.now }
-    ensures { result ≡ is_no_field k (drop at text.now) }
+fn no_field(rest: &[u8], k: u32) -> bool
+    ensures { result ≡ is_no_field k rest.now }
 {
-    if text[at] == b'x' {
-        return k <= number_at(text, at + 1);
+    match rest {
+        [b'x', field @ ..] => k <= number(field),
+        _ => false,
     }
-    false
 }
 
 // The first `x` whose N is k or more.
-pub(crate) fn first_without(text: &[u8], k: u32) -> crate::Found
+pub(crate) fn first_without(text: &[u8], k: u32) -> Option<usize>
     ensures { result ≡ first (is_no_field k) 0 text.now }
 {
-    let mut i: usize = 0;
-    while i < text.len() {
-        if no_field(text, i, k) {
-            return crate::Found::At(i);
-        }
-        i += 1;
-    }
-    crate::Found::Nowhere
+    (0..text.len()).find(|at| no_field(&text[*at..], k))
 }

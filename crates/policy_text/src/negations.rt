@@ -1,23 +1,18 @@
 // Does a text have `!` before an operand with `:=`, `*` or `T`: 8.
-ghost use Rattle.std.specs.Prelude.{◌≡◌, ℕ, ◌+◌, ◌≤◌, ◌<◌, length, drop};
+ghost use Rattle.std.specs.Prelude.{◌≡◌, ℕ, ◌<◌};
 ghost use Rattle.policy_text.specs.XForms.{x_forms};
 ghost use Rattle.policy_text.specs.Reading.{first, is_test, open_after, is_clean_inside, is_clean, does_offend};
 
 // After `x`: a test, and no assignment?
-fn is_test(text: &[u8], at: usize) -> bool
-    requires { at ≤ length text.now }
-    ensures { result ≡ is_test (drop at text.now) }
+fn is_test(rest: &[u8]) -> bool
+    ensures { result ≡ is_test rest.now }
 {
-    let mut i = at;
-    while i < text.len() {
-        let b = text[i];
-        if b == b':' {
-            return false;
+    for b in rest {
+        match *b {
+            b':' => return false,
+            b'=' => return true,
+            _ => {}
         }
-        if b == b'=' {
-            return true;
-        }
-        i += 1;
     }
     true
 }
@@ -27,90 +22,62 @@ fn opened(b: u8, count: usize) -> usize
     requires { count < 18446744073709551615 }
     ensures { result ≡ open_after b count }
 {
-    if b == b'(' {
-        return count + 1;
+    match b {
+        b'(' => count + 1,
+        b')' => count.saturating_sub(1),
+        _ => count,
     }
-    if b == b')' {
-        if count == 0 {
-            return 0;
-        }
-        return count - 1;
-    }
-    count
 }
 
 // After `(`: no `:`, `*` or `T` up to its `)`?
-fn clean_inside(text: &[u8], at: usize) -> bool
-    requires { at ≤ length text.now }
-    ensures { result ≡ is_clean_inside (drop at text.now) 1 }
+fn clean_inside(rest: &[u8]) -> bool
+    ensures { result ≡ is_clean_inside rest.now 1 }
 {
     let mut count: usize = 1;
-    let mut i = at;
-    while 0 < count {
-        if i == text.len() {
+    for b in rest {
+        if count == 0 {
             return true;
         }
-        let b = text[i];
-        if b == b':' {
+        // A local for each test that an edit of must-fail changes: a goal is named after what its test compares.
+        let star = *b == b'*';
+        let full = *b == b'T';
+        if *b == b':' || star || full {
             return false;
         }
-        let star = b == b'*';
-        if star {
-            return false;
-        }
-        let full = b == b'T';
-        if full {
-            return false;
-        }
-        count = opened(b, count);
-        i += 1;
+        count = opened(*b, count);
     }
     true
 }
 
-// No `:`, `*` or `T` in the atom at an offset?
-fn clean(text: &[u8], at: usize) -> bool
-    requires { at ≤ length text.now }
-    ensures { result ≡ is_clean x_forms (drop at text.now) }
+// No `:`, `*` or `T` in the atom that what is left of a text begins with? A `!` before it is passed over.
+fn clean(rest: &[u8]) -> bool
+    ensures { result ≡ is_clean x_forms rest.now }
 {
-    let mut i = at;
-    while i < text.len() {
-        let b = text[i];
-        if b == b'(' {
-            return clean_inside(text, i + 1);
-        }
-        if b == b'x' {
-            return is_test(text, i + 1);
-        }
-        if b != b'!' {
-            return b != b'T';
-        }
-        i += 1;
+    let mut atom = rest;
+    while let [b'!', operand @ ..] = atom {
+        atom = operand;
     }
-    true
+    match atom {
+        [b'(', inside @ ..] => clean_inside(inside),
+        [b'x', field @ ..] => is_test(field),
+        [b'T', ..] => false,
+        _ => true,
+    }
 }
 
 // A `!` before an operand with `:`, `*` or `T`?
-fn offends(text: &[u8], at: usize) -> bool
-    requires { at < length text.now }
-    ensures { result ≡ does_offend x_forms (drop at text.now) }
+fn offends(rest: &[u8]) -> bool
+    ensures { result ≡ does_offend x_forms rest.now }
 {
-    if text[at] == b'!' {
-        return !clean(text, at + 1);
+    match rest {
+        [b'!', operand @ ..] => !clean(operand),
+        _ => false,
     }
-    false
 }
 
 // The first offending `!`.
-pub(crate) fn first_offending(text: &[u8]) -> crate::Found
+pub(crate) fn first_offending(text: &[u8]) -> Option<usize>
     ensures { result ≡ first (does_offend x_forms) 0 text.now }
 {
-    let mut i: usize = 0;
-    while i < text.len() {
-        if offends(text, i) {
-            return crate::Found::At(i);
-        }
-        i += 1;
-    }
-    crate::Found::Nowhere
+    (0..text.len()).find(|at| offends(&text[*at..]))
 }

@@ -1,233 +1,162 @@
-// Does a text follow the grammar, nested at most 32 deep, and where does it first not: one function for each rank of the grammar.
-ghost use Rattle.std.specs.Prelude.{◌≡◌, Bool, ℕ, ◌+◌, ◌≤◌, [], ◌∷◌, length};
+// Does a text follow the grammar, nested at most 32 deep, and where does it first not: a byte that cannot stand there (7), or a `(` or `!` inside 32
+// others (9). What a part of the grammar reads is its end.
+ghost use Rattle.std.specs.Prelude.{◌≡◌, Bool, ℕ, ◌≤◌, [], ◌∷◌, length};
 ghost use Rattle.policy_text.specs.XForms.{x_forms};
 ghost use Rattle.policy_text.specs.Machine.{inside, need, spelt, bit, reads};
-ghost use Rattle.policy_text.specs.Posts.{AtomPost, RelationPost, JoinPost, StarsPost, continues_starred, continues_product};
-ghost use Rattle.policy_text.specs.Posts.{continues_term, continues_sum, read_of};
+ghost use Rattle.policy_text.specs.Misreads.{misread};
+ghost use Rattle.policy_text.specs.Posts.{ByteAt, DeeperAt, AtomPost, RelationPost, JoinPost, StarsPost, continues_starred, continues_part, continues_rank};
+ghost use Rattle.policy_text.specs.Posts.{read_of};
+ghost use Rattle.policy_text.specs.declared.Fault.{Fault};
 
-// What reading finds: the offset where it ended, or that of a byte that cannot stand there (7), or of a `(` or `!` inside 32 others (9).
-#[derive(Clone, Copy)]
-pub(crate) enum Read {
-    End(usize),
-    Bad(usize),
-    Deep(usize),
+use super::{Fault, Misread, Rank};
+
+// A byte that cannot stand there.
+fn not_policy(at: usize) -> Misread
+    ensures { result ≡ misread Fault.NotPolicy at }
+{
+    Misread {
+        fault: Fault::NotPolicy,
+        at,
+    }
+}
+
+// The depth of what follows a `(` or a `!` at an offset, which are inside at most 31 others.
+fn deeper(at: usize, depth: u32) -> Result<u32, Misread>
+    ensures { DeeperAt at depth result }
+{
+    if depth < 32 {
+        return Ok(depth + 1);
+    }
+    Err(Misread {
+        fault: Fault::TooDeep,
+        at,
+    })
+}
+
+// The byte at an offset, if the text does not end before it.
+fn byte(text: &[u8], at: usize) -> Result<u8, Misread>
+    ensures { ByteAt text.now at result }
+{
+    text.get(at).copied().ok_or(not_policy(at))
 }
 
 // The value b, which follows `=`.
-fn read_bit(text: &[u8], at: usize) -> Read
-    requires { at ≤ length text.now }
+fn read_bit(text: &[u8], at: usize) -> Result<usize, Misread>
     ensures { (k : Bool) (n d : ℕ) → AtomPost x_forms text.now d (inside (bit k n)) at result }
 {
-    if at == text.len() {
-        return Read::Bad(at);
+    match byte(text, at)? {
+        b'0' | b'1' => Ok(at + 1),
+        _ => Err(not_policy(at)),
     }
-    let b = text[at];
-    if b == b'0' {
-        return Read::End(at + 1);
-    }
-    if b == b'1' {
-        return Read::End(at + 1);
-    }
-    Read::Bad(at)
 }
 
 // What follows N: `=` and b, or `:=` and b.
-fn read_relation(text: &[u8], at: usize) -> Read
-    requires { at ≤ length text.now }
+fn read_relation(text: &[u8], at: usize) -> Result<usize, Misread>
     ensures { RelationPost x_forms text.now at result }
 {
-    if at == text.len() {
-        return Read::Bad(at);
-    }
-    let b = text[at];
-    if b == b'=' {
-        return read_bit(text, at + 1);
-    }
-    if b == b':' {
-        let next = at + 1;
-        if next == text.len() {
-            return Read::Bad(next);
+    match byte(text, at)? {
+        b'=' => read_bit(text, at + 1),
+        b':' => {
+            let next = at + 1;
+            if byte(text, next)? == b'=' {
+                return read_bit(text, next + 1);
+            }
+            Err(not_policy(next))
         }
-        if text[next] == b'=' {
-            return read_bit(text, next + 1);
-        }
-        return Read::Bad(next);
+        _ => Err(not_policy(at)),
     }
-    Read::Bad(at)
 }
 
 // What follows `x`: N, and what follows it.
-fn read_field(text: &[u8], at: usize) -> Read
-    requires { at ≤ length text.now }
+fn read_field(text: &[u8], at: usize) -> Result<usize, Misread>
     ensures { (d : ℕ) → AtomPost x_forms text.now d (inside (spelt (120 ∷ []))) at result }
 {
-    if at == text.len() {
-        return Read::Bad(at);
-    }
-    let b = text[at];
-    if b == b'0' {
-        return read_relation(text, at + 1);
-    }
-    if crate::is_digit(b) {
-        let next = at + 1;
-        if next == text.len() {
-            return Read::Bad(next);
+    match byte(text, at)? {
+        b'0' => read_relation(text, at + 1),
+        b'1'..=b'9' => {
+            let next = at + 1;
+            if byte(text, next)?.is_ascii_digit() {
+                return read_relation(text, next + 1);
+            }
+            read_relation(text, next)
         }
-        if crate::is_digit(text[next]) {
-            return read_relation(text, next + 1);
-        }
-        return read_relation(text, next);
+        _ => Err(not_policy(at)),
     }
-    Read::Bad(at)
 }
 
-// The `*` after an item.
+// The end of the `*` after an item.
 fn stars(text: &[u8], at: usize) -> usize
     requires { at ≤ length text.now }
     ensures { StarsPost x_forms text.now at result }
 {
-    let mut i = at;
-    while i < text.len() {
-        if text[i] != b'*' {
-            return i;
-        }
-        i += 1;
-    }
-    i
+    at + text[at..].iter().take_while(|b| **b == b'*').count()
 }
 
-#[cycle(atom_product_starred_sum_term)]
-fn atom(text: &[u8], at: usize, depth: u32) -> Read
-    requires { at ≤ length text.now }
+#[cycle(atom_starred_part_joined)]
+fn atom(text: &[u8], at: usize, depth: u32) -> Result<usize, Misread>
     ensures { AtomPost x_forms text.now depth need at result }
 {
-    if at == text.len() {
-        return Read::Bad(at);
-    }
-    let b = text[at];
-    if b == b'0' {
-        return Read::End(at + 1);
-    }
-    if b == b'1' {
-        return Read::End(at + 1);
-    }
-    if b == b'T' {
-        return Read::End(at + 1);
-    }
-    if b == b'x' {
-        return read_field(text, at + 1);
-    }
-    if b == b'!' {
-        if depth < 32 {
-            return atom(text, at + 1, depth + 1);
+    match byte(text, at)? {
+        b'0' | b'1' | b'T' => Ok(at + 1),
+        b'x' => read_field(text, at + 1),
+        b'!' => {
+            let inner = deeper(at, depth)?;
+            atom(text, at + 1, inner)
         }
-        return Read::Deep(at);
-    }
-    if b == b'(' {
-        if depth < 32 {
-            let inner = sum(text, at + 1, depth + 1);
-            let Read::End(e) = inner else {
-                return inner;
-            };
-            if e == text.len() {
-                return Read::Bad(e);
-            }
-            let closes = text[e] == b')';
+        b'(' => {
+            let inner = deeper(at, depth)?;
+            let end = joined(Rank::Sum, text, at + 1, inner)?;
+            // A local, since an edit of must-fail changes this test, and a goal is named after what its test compares.
+            let closes = byte(text, end)? == b')';
             if closes {
-                return Read::End(e + 1);
+                return Ok(end + 1);
             }
-            return Read::Bad(e);
+            Err(not_policy(end))
         }
-        return Read::Deep(at);
+        _ => Err(not_policy(at)),
     }
-    Read::Bad(at)
 }
 
-#[cycle(atom_product_starred_sum_term)]
-fn starred(text: &[u8], at: usize, depth: u32) -> Read
-    requires { at ≤ length text.now }
+#[cycle(atom_starred_part_joined)]
+fn starred(text: &[u8], at: usize, depth: u32) -> Result<usize, Misread>
     ensures { JoinPost x_forms continues_starred text.now depth at result }
 {
-    let first = atom(text, at, depth);
-    let Read::End(e) = first else {
-        return first;
-    };
-    Read::End(stars(text, e))
+    let end = atom(text, at, depth)?;
+    Ok(stars(text, end))
 }
 
-#[cycle(atom_product_starred_sum_term)]
-fn product(text: &[u8], at: usize, depth: u32) -> Read
-    requires { at ≤ length text.now }
-    ensures { JoinPost x_forms continues_product text.now depth at result }
+// A part of a rank.
+#[cycle(atom_starred_part_joined)]
+fn part(rank: Rank, text: &[u8], at: usize, depth: u32) -> Result<usize, Misread>
+    ensures { JoinPost x_forms (continues_part rank) text.now depth at result }
 {
-    let mut from = at;
-    loop {
-        let next = starred(text, from, depth);
-        let Read::End(e) = next else {
-            return next;
-        };
-        if e == text.len() {
-            return next;
-        }
-        if text[e] != b';' {
-            return next;
-        }
-        from = e + 1;
+    match rank {
+        Rank::Product => starred(text, at, depth),
+        Rank::Term => joined(Rank::Product, text, at, depth),
+        Rank::Sum => joined(Rank::Term, text, at, depth),
     }
 }
 
-#[cycle(atom_product_starred_sum_term)]
-fn term(text: &[u8], at: usize, depth: u32) -> Read
-    requires { at ≤ length text.now }
-    ensures { JoinPost x_forms continues_term text.now depth at result }
+// A rank: its parts, joined. Each turn goes on by as much as a part reads, by a call that may refuse, so no iterator gives its steps. The text stays and offset
+// and depth change at each call, so they are parameters of their own.
+#[cycle(atom_starred_part_joined)]
+fn joined(rank: Rank, text: &[u8], at: usize, depth: u32) -> Result<usize, Misread>
+    ensures { JoinPost x_forms (continues_rank rank) text.now depth at result }
 {
-    let mut from = at;
-    loop {
-        let next = product(text, from, depth);
-        let Read::End(e) = next else {
-            return next;
-        };
-        if e == text.len() {
-            return next;
-        }
-        if !crate::mixes(text[e]) {
-            return next;
-        }
-        from = e + 1;
+    let mut end = part(rank, text, at, depth)?;
+    while end < text.len() && rank.joins(text[end]) {
+        end = part(rank, text, end + 1, depth)?;
     }
+    Ok(end)
 }
 
-#[cycle(atom_product_starred_sum_term)]
-fn sum(text: &[u8], at: usize, depth: u32) -> Read
-    requires { at ≤ length text.now }
-    ensures { JoinPost x_forms continues_sum text.now depth at result }
+// The whole text.
+pub(crate) fn check(text: &[u8]) -> Result<(), Misread>
+    ensures { result ≡ read_of (reads x_forms text.now) }
 {
-    let mut from = at;
-    loop {
-        let next = term(text, from, depth);
-        let Read::End(e) = next else {
-            return next;
-        };
-        if e == text.len() {
-            return next;
-        }
-        if text[e] != b'+' {
-            return next;
-        }
-        from = e + 1;
+    let end = joined(Rank::Sum, text, 0, 0)?;
+    if end == text.len() {
+        return Ok(());
     }
-}
-
-// The whole text: its end, or the refusal.
-pub(crate) fn check(text: &[u8]) -> Read
-    ensures { result ≡ read_of (length text.now) (reads x_forms text.now) }
-{
-    let all = sum(text, 0, 0);
-    let Read::End(e) = all else {
-        return all;
-    };
-    if e == text.len() {
-        return all;
-    }
-    Read::Bad(e)
+    Err(not_policy(end))
 }

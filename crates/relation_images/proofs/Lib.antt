@@ -1,3 +1,3 @@
-pub mod Opened
-pub mod Children
+pub mod AtEnds
+pub mod Filtering
 pub mod Moving

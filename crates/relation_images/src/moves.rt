@@ -1,15 +1,18 @@
 // A set of packets moved along a relation, or back.
-ghost use Rattle.std.specs.Prelude.{◌≡◌, ℕ, ◌<◌, min};
+ghost use Rattle.std.specs.Prelude.{ℕ};
 ghost use Rattle.model.specs.Store.{set};
 ghost use Rattle.model.specs.Programs.{Prog};
 ghost use Rattle.model.specs.Images.{image_short, push, pull};
-ghost use Rattle.memory.specs.Performing.{PerformsOn, OtherNodes};
-ghost use Rattle.memory.specs.Memo.{memo_program, op_limit};
+ghost use Rattle.memory.specs.Performing.{PerformsOn, OtherNodes, going, ended};
+ghost use Rattle.relation_images.specs.Ends.{image};
 ghost use Rattle.relation_images.specs.Moves.{ImageReduces};
 
-use memory::RunState;
+use crate::ends::{End, Inputs, Outputs};
+use memory::memo;
+use memory::property_words::{relation_properties, set_properties};
 
-// What shortcuts know of an image: the answer, the empty or full set, that of the full set, or nothing.
+// What shortcuts know of an image: the answer, the empty or full set, that of the full set, or nothing. No Option or Result: three cases name what is
+// run in the node's place.
 #[derive(Clone, Copy)]
 enum ImageShortcut {
     Answer(u32),
@@ -19,38 +22,27 @@ enum ImageShortcut {
     Node,
 }
 
-// The lesser number.
-fn lesser(x: u32, y: u32) -> u32
-    ensures { result ≡ min x y }
-{
-    if x < y { x } else { y }
-}
-
-// What the properties of the set p and the relation a, or the memo, know of an image; x and y are p and a as the memo has them.
+// What the properties of the set p and the relation a know of an image.
 fn image_tests(
     relations: &[u32],
     sets: &[u32],
     work: &[u32],
-    op: u32,
     level: u8,
     p: u32,
     a: u32,
-    x: u32,
-    y: u32,
 ) -> ImageShortcut
-    requires { op < op_limit }
-    ensures { (j : ℕ) (whole node : Prog) → node ≡ memo_program op level x y
+    ensures { (j : ℕ) (whole node : Prog)
         → ImageReduces (OtherNodes set relations.now j) (image_short level p a whole node) level whole node
         sets.now work.now result }
 {
     if p < 2 {
-        return ImageShortcut::Answer(lesser(p, a));
+        return ImageShortcut::Answer(p.min(a));
     }
-    let pp = memory::property_words::set_properties(sets, work, level, p);
+    let pp = set_properties(sets, work, level, p);
     if pp.empty {
         return ImageShortcut::Answer(p);
     }
-    let pa = memory::property_words::relation_properties(relations, work, level, a);
+    let pa = relation_properties(relations, work, level, a);
     if pa.identity {
         return ImageShortcut::Answer(p);
     }
@@ -63,11 +55,52 @@ fn image_tests(
     if pp.universal {
         return ImageShortcut::Whole;
     }
-    let found = memory::memo::recall(work, op, level, x, y);
-    if let memory::Lookup::Answer(h) = found {
-        return ImageShortcut::Answer(h);
-    }
     ImageShortcut::Node
+}
+
+// What a relation has at one end for the packets of a set at the other.
+fn image<E: End>(
+    relations: &[u32],
+    sets: &mut [u32],
+    work: &mut [u32],
+    n: &mut usize,
+    level: u8,
+    p: u32,
+    a: u32,
+) -> Option<u32>
+    ensures { (j : ℕ) → PerformsOn (OtherNodes set relations.now j) set (image E.outputs level p a) (going n.old)
+        sets.old sets.new work.old work.new (ended n.new result) }
+{
+    match image_tests(relations, sets, work, level, p, a) {
+        ImageShortcut::Answer(h) => Some(h),
+        ImageShortcut::Zero => sets::zero_at_depth(sets, work, n, level),
+        ImageShortcut::One => sets::one_at_depth(sets, work, n, level),
+        ImageShortcut::Whole => crate::range::<E>(relations, sets, work, n, level, a),
+        ImageShortcut::Node => {
+            // The memo's number and operands.
+            let number = E::image_number();
+            let (first, second) = E::in_order(a, p);
+            if let Some(h) = memo::recall(work, number, level, first, second) {
+                return Some(h);
+            }
+            if level == 0 {
+                return None;
+            }
+            let x = sets::get(sets, p);
+            let y = relations::get(relations, a);
+            // The children of p that go with those of a.
+            let (p10, p01) = E::in_order(x.x0, x.x1);
+            let below = level - 1;
+            let r00 = image::<E>(relations, sets, work, n, below, x.x0, y.x00)?;
+            let r10 = image::<E>(relations, sets, work, n, below, p10, y.x10)?;
+            let r01 = image::<E>(relations, sets, work, n, below, p01, y.x01)?;
+            let r11 = image::<E>(relations, sets, work, n, below, x.x1, y.x11)?;
+            let (b, c) = E::in_order(r01, r10);
+            let h = crate::two_unions(sets, work, n, below, r00, b, c, r11)?;
+            memo::keep(work, number, level, first, second, h);
+            Some(h)
+        }
+    }
 }
 
 // The outputs of a relation for the packets of a set.
@@ -75,38 +108,15 @@ pub fn push(
     relations: &[u32],
     sets: &mut [u32],
     work: &mut [u32],
-    s: RunState,
+    n: &mut usize,
     level: u8,
     p: u32,
     a: u32,
-) -> RunState
-    ensures { (j : ℕ) → PerformsOn (OtherNodes set relations.now j) set (push level p a) s
-        sets.old sets.new work.old work.new result }
+) -> Option<u32>
+    ensures { (j : ℕ) → PerformsOn (OtherNodes set relations.now j) set (push level p a) (going n.old)
+        sets.old sets.new work.old work.new (ended n.new result) }
 {
-    if !s.ok {
-        return s;
-    }
-    let found = image_tests(relations, sets, work, memory::memo::PUSH, level, p, a, p, a);
-    match found {
-        ImageShortcut::Answer(h) => memory::insert::with_handle(s, h),
-        ImageShortcut::Zero => sets::zero_at_depth(sets, work, s, level),
-        ImageShortcut::One => sets::one_at_depth(sets, work, s, level),
-        ImageShortcut::Whole => crate::fwd(relations, sets, work, s, level, a),
-        ImageShortcut::Node => {
-            if level == 0 {
-                return s;
-            }
-            let x = sets::get(sets, p);
-            let y = relations::get(relations, a);
-            let below = level - 1;
-            let r00 = push(relations, sets, work, s, below, x.x0, y.x00);
-            let r10 = push(relations, sets, work, r00, below, x.x1, y.x10);
-            let r01 = push(relations, sets, work, r10, below, x.x0, y.x01);
-            let r11 = push(relations, sets, work, r01, below, x.x1, y.x11);
-            let r = crate::two_unions(sets, work, r11, below, r00.h, r10.h, r01.h, r11.h);
-            memory::memo::remember(work, r, memory::memo::PUSH, level, p, a)
-        }
-    }
+    image::<Outputs>(relations, sets, work, n, level, p, a)
 }
 
 // The packets for which a relation has an output in a set.
@@ -114,36 +124,13 @@ pub fn pull(
     relations: &[u32],
     sets: &mut [u32],
     work: &mut [u32],
-    s: RunState,
+    n: &mut usize,
     level: u8,
     a: u32,
     p: u32,
-) -> RunState
-    ensures { (j : ℕ) → PerformsOn (OtherNodes set relations.now j) set (pull level a p) s
-        sets.old sets.new work.old work.new result }
+) -> Option<u32>
+    ensures { (j : ℕ) → PerformsOn (OtherNodes set relations.now j) set (pull level a p) (going n.old)
+        sets.old sets.new work.old work.new (ended n.new result) }
 {
-    if !s.ok {
-        return s;
-    }
-    let found = image_tests(relations, sets, work, memory::memo::PULL, level, p, a, a, p);
-    match found {
-        ImageShortcut::Answer(h) => memory::insert::with_handle(s, h),
-        ImageShortcut::Zero => sets::zero_at_depth(sets, work, s, level),
-        ImageShortcut::One => sets::one_at_depth(sets, work, s, level),
-        ImageShortcut::Whole => crate::bwd(relations, sets, work, s, level, a),
-        ImageShortcut::Node => {
-            if level == 0 {
-                return s;
-            }
-            let x = relations::get(relations, a);
-            let y = sets::get(sets, p);
-            let below = level - 1;
-            let r00 = pull(relations, sets, work, s, below, x.x00, y.x0);
-            let r10 = pull(relations, sets, work, r00, below, x.x10, y.x0);
-            let r01 = pull(relations, sets, work, r10, below, x.x01, y.x1);
-            let r11 = pull(relations, sets, work, r01, below, x.x11, y.x1);
-            let r = crate::two_unions(sets, work, r11, below, r00.h, r01.h, r10.h, r11.h);
-            memory::memo::remember(work, r, memory::memo::PULL, level, a, p)
-        }
-    }
+    image::<Inputs>(relations, sets, work, n, level, p, a)
 }

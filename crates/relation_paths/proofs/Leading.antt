@@ -1,35 +1,28 @@
--- `has_image` and `has_path`: one program asked after another, what is left after the shortcuts, and of the node when its children are read.
+-- `has_image` and `has_path`: what is left after the shortcuts, and of the node when its children are read.
 use mathlib.Core.Path.{◌≡◌, refl, sym, ap, subst}
 use mathlib.Core.Logic.{◌⊎◌, inl, inr}
 use mathlib.Core.List.{List, [], ◌∷◌}
-use mathlib.Core.Bool.{true, false}
+use mathlib.Core.Bool.{Bool, true, false}
+use Rattle.std.specs.Prelude.{Option, Some, None}
 use Prim.Native.Nat.{ℕ, zero, suc, ◌+◌, ◌-◌, ◌<◌}
 use native.Mathlib.Omega.{arith}
 use lib.Dec.{ltb}
-use borrow.Author.Tests.{eq-eqb, ne_eqb, lt-ltb, le-ltb}
+use borrow.Author.Tests.{lt-ltb, le-ltb}
+use Rattle.std.specs.Int.{from_bool}
 use Rattle.model.specs.Images.{has_image_op, has_image, has_path_short, has_path_kids, has_path_node, has_path}
 use Rattle.model.specs.Programs.{Prog, panic, ret, look}
 use Rattle.model.specs.Recursion.{node2, op2, or_else}
 use Rattle.model.specs.Sets.{intersects}
-use Rattle.model.specs.Store.{Kind, set, rel}
+use Rattle.model.specs.Store.{set, rel}
 use Rattle.model.proofs.Recursion.{node2_open}
-use Rattle.memory.specs.Performing.{run_state, Condition, PerformsOn, OtherNodes, ReducesOn, ReadsChildren, Remembered}
+use Rattle.memory.specs.Performing.{going, told, KeepsEntry, Condition, PerformsOn, OtherNodes, ReducesOn, ReadsChildren}
 use Rattle.memory.specs.Memo.{memo_program, op_has_image, op_has_path, op_first_input}
-use Rattle.memory.specs.declared.RunState.{RunState}
 use Rattle.memory.proofs.OtherNodes.{read_of_other}
-use Rattle.memory.proofs.Remembering.{performs_remember}
-use Rattle.memory.proofs.Steps.{performs_then, begin, by, looked, called, performs_ret, performs_same, performs_differ}
+use Rattle.memory.proofs.YesNo.{told_kept}
+use Rattle.memory.proofs.Steps.{begin, by, further, looked, called}
 use Rattle.relation_paths.specs.declared.PathShortcut.{PathShortcut}
 use Rattle.relation_paths.specs.declared.PathShortcut.TheVariants.{Answer, Meet, Leave, Node}
-use Rattle.relation_paths.specs.Paths.{path_rest, PathReduces}
-
--- the first program says yes, and the second is not asked; it says no
-module _ {Q : Condition} {K : Kind} {p q : Prog} {s r : RunState} {m m₁ w w₁ : List ℕ} (d : PerformsOn Q K p s m m₁ w w₁ r) where
-  pub or_yes : r.h ≡ 1 → PerformsOn Q K (or_else p q) s m m₁ w w₁ r
-  or_yes e = performs_then d (performs_same r.h 1 (eq-eqb _ _ e) (performs_ret 1 (λ i. run_state r.ok r.n (e i))))
-
-  pub or_no : {r₂ : RunState} {m₂ w₂ : List ℕ} → (r.h ≡ 1 → ⊥) → PerformsOn Q K q r m₁ m₂ w₁ w₂ r₂ → PerformsOn Q K (or_else p q) s m m₂ w w₂ r₂
-  or_no h e = performs_then d (performs_differ r.h 1 (ne_eqb _ _ h) e)
+use Rattle.relation_paths.specs.Paths.{image_rest, ImageTold, path_rest, PathReduces}
 
 -- HAS_IMAGE
 module _ (l p a : ℕ) where
@@ -47,6 +40,21 @@ module _ (l p a : ℕ) where
       (or_else (has_image (l - 1) p1 a10) (has_image (l - 1) p1 a11)))) m w
   unfolding has_image
   image_opened h X Y = read_of_other (looked (by begin (node2_open has_image_op l p a h)) X) Y
+
+-- what the shortcuts say, and what it leaves
+pub image_known : {Q : Condition} {l p a : ℕ} {node : Prog} {m w : List ℕ} {b : Bool}
+    → ReducesOn Q set (has_image_op.short l p a (node2 has_image_op l)) (ret (from_bool b)) m w → ImageTold Q (has_image l p a) node m w (Some b)
+image_known {l = l} {p} {a} u = record { reduces = further (by begin (image_is l p a)) u }
+
+pub image_unknown : {Q : Condition} {t node : Prog} {m w : List ℕ} {r : Option Bool} → r ≡ None → ReducesOn Q set t node m w → ImageTold Q t node m w r
+image_unknown {node = node} e u = record { reduces = by u (ap (image_rest node) (sym e)) }
+
+module _ {Q : Condition} {t node : Prog} {m w : List ℕ} {r : Option Bool} (u : ImageTold Q t node m w r) where
+  pub image_told : {b : Bool} → r ≡ Some b → ReducesOn Q set t (ret (from_bool b)) m w
+  image_told e = by u.reduces (ap (image_rest node) e)
+
+  pub image_left : r ≡ None → ReducesOn Q set t node m w
+  image_left e = by u.reduces (ap (image_rest node) e)
 
 -- HAS_PATH
 pub path_is : (l p a q : ℕ) → has_path l p a q ≡ has_path_short l p a q (has_path_node l p a q)
@@ -79,12 +87,16 @@ pub path_opened : (l p a q : ℕ) {o m w : List ℕ} {j p0 p1 q0 q1 a00 a01 a10 
     (or_else (has_path (l - 1) p1 a10 q0) (has_path (l - 1) p1 a11 q1)))) m w
 path_opened l p a q h X Z Y = read_of_other (looked (looked (by begin (path_open l p a q h)) X) Z) Y
 
+pub path_known : {Q : Condition} {l p a q : ℕ} {m w : List ℕ} {r : PathShortcut}
+    → ReducesOn Q set (has_path_short l p a q (has_path_node l p a q)) (path_rest l p a q r) m w → PathReduces Q (has_path l p a q) l p a q m w r
+path_known {l = l} {p} {a} {q} u = record { reduces = further (by begin (path_is l p a q)) u }
+
 -- each thing that the shortcuts may leave
 module _ {Q : Condition} {t : Prog} {l p a q : ℕ} {m w : List ℕ} {r : PathShortcut} (u : PathReduces Q t l p a q m w r) where
   rest_left : {i : PathShortcut} → r ≡ i → ReducesOn Q set t (path_rest l p a q i) m w
   rest_left e = by u.reduces (ap (path_rest l p a q) e)
 
-  pub answer_left : {h : ℕ} → r ≡ Answer h → ReducesOn Q set t (ret h) m w
+  pub answer_left : {b : Bool} → r ≡ Answer b → ReducesOn Q set t (ret (from_bool b)) m w
   answer_left e = rest_left e
 
   pub meet_left : r ≡ Meet → ReducesOn Q set t (intersects l p q) m w
@@ -97,11 +109,9 @@ module _ {Q : Condition} {t : Prog} {l p a q : ℕ} {m w : List ℕ} {r : PathSh
   node_left e = rest_left e
 
 -- the answer is kept where the memo has a number for it
-pub path_returns : {Q : Condition} {t n : Prog} {s r z : RunState} {m m₁ w w₁ w₂ : List ℕ} (l p a q : ℕ) → s.ok ≡ true
-    → ReducesOn Q set t (has_path_node l p a q) m w → ReducesOn Q set (has_path_node l p a q) n m w → PerformsOn Q set n s m m₁ w w₁ r
-    → (z ≡ r) × ((w₂ ≡ w₁) ⊎ ((op_has_path + q < op_first_input) × Remembered r (op_has_path + q) l p a w₁ w₂)) → PerformsOn Q set t s m m₁ w w₂ z
-path_returns {Q} {t} {n} {s} {r} {z} {m} {m₁} {w} {w₁} {w₂} l p a q ok u o d k = called ok u
-    (subst (λ y. PerformsOn Q set (has_path_node l p a q) s m m₁ w w₂ y) (sym k.0) (elim k.1 [
-      | inl e ↦ subst (λ v. PerformsOn Q set (has_path_node l p a q) s m m₁ w v r) (sym e) (called ok o d)
-      | inr f ↦ performs_remember _ l p a (path_memo l p a q f.0) (called ok o d) f.1
-    ]))
+pub path_kept : {Q : Condition} {t : Prog} {n : ℕ} (b : Bool) {m w w₁ w₂ : List ℕ} (l p a q : ℕ) → ReducesOn Q set t (has_path_node l p a q) m w
+    → PerformsOn Q set (has_path_node l p a q) (going n) m m w w₁ (told n b)
+    → (w₂ ≡ w₁) ⊎ ((op_has_path + q < op_first_input) × KeepsEntry w₁ w₂ (op_has_path + q) l p a (from_bool b))
+    → PerformsOn Q set t (going n) m m w w₂ (told n b)
+path_kept {Q} {t} {n} b {m} {w} l p a q u d (inl e) = subst (λ v. PerformsOn Q set t (going n) m m w v (told n b)) (sym e) (called u d)
+path_kept b l p a q u d (inr f) = told_kept b _ l p a (path_memo l p a q f.0) u d refl f.1

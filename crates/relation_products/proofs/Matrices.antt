@@ -1,28 +1,22 @@
--- Products and stars: what is left of their nodes, and what these run, from what the calls did.
+-- Products: what is left of their nodes.
 use mathlib.Core.Path.{◌≡◌, sym, ◌∙◌, subst}
 use mathlib.Core.List.{List, [], ◌∷◌}
 use mathlib.Core.Bool.{true}
 use Prim.Native.Nat.{ℕ, ◌-◌}
 use native.Mathlib.Omega.{arith}
-use Rattle.model.specs.Operations.{union}
 use Rattle.model.specs.Programs.{Prog, run, ◌>>=◌}
-use Rattle.model.specs.Recursion.{node1, node2, x00, x01}
-use Rattle.model.specs.Relations.{sequence_op, sequence, star_op, star}
+use Rattle.model.specs.Recursion.{node2, x00, x01}
+use Rattle.model.specs.Relations.{sequence_op, sequence}
 use Rattle.model.specs.Safety.{Safe, ReducesTo}
 use Rattle.model.specs.Store.{rel, Store, get}
 use Rattle.model.proofs.Diagonal.{node, times_diagonal, diagonal_reduces, product_lifts, Void, child_void}
 use Rattle.model.proofs.Recursion.{node2_open}
 use Rattle.model.proofs.Reducing.{Formed}
-use Rattle.memory.specs.Performing.{Any, Performs, ReadsChildren, KnowsProperties, Remembered, Reduces}
+use Rattle.memory.specs.Performing.{Any, ReadsChildren, KnowsProperties, Reduces}
 use Rattle.memory.specs.Rows.{plain}
-use Rattle.memory.proofs.Remembering.{called_kept}
-use Rattle.memory.proofs.Steps.{performs_then, begin, turn, by, called, empty_says}
-use Rattle.memory.specs.declared.RunState.{RunState}
+use Rattle.memory.proofs.Steps.{begin, turn, by, empty_says}
 use Rattle.memory.specs.declared.Properties.{Properties}
 use Rattle.relations.specs.Shapes.{Lifted}
-use Rattle.relation_products.specs.Products.{star_node}
-use Rattle.relations.proofs.Children.{opened1}
-use Rattle.relation_products.proofs.Opened.{star_memo}
 
 -- the product of two nodes, the second with an empty relation off the diagonal: what is left of it where the shorter program serves
 module _ {m w : List ℕ} (l x y : ℕ) {p q : List ℕ} {r : Properties} (h : l ≡ 0 → ⊥) (X : ReadsChildren rel m x p) (Y : ReadsChildren rel m y q)
@@ -54,14 +48,3 @@ module _ {m w : List ℕ} (l x y : ℕ) {r : Properties} (h : l ≡ 0 → ⊥) w
       → r.empty ≡ true → Reduces rel (node2 sequence_op l x y) (sequence (l - 1) (x00 p) (x00 q) >>= λ t. node t (x01 q) (x01 q) t) m w
   lift_left {p} {q} X Y L N e = shorter l x y h (subst (ReadsChildren rel m x) L.first X) (subst (ReadsChildren rel m y) L.second Y) N e
       (λ S. product_lifts (l - 1) (x00 p) (x00 q) (x01 q))
-
--- d*, b d*, b d* c, a + b d* c and its star, then the rest of the node
-pub star_returns : {p : Prog} {s r0 r1 r2 r3 r4 r q : RunState} {m m0 m1 m2 m3 m4 m5 w w0 w1 w2 w3 w4 w5 w6 : List ℕ} (l x y : ℕ) {a b c d : ℕ}
-    → s.ok ≡ true → (l ≡ 0 → ⊥) → Reduces rel p (node1 star_op l x) m w → ReadsChildren rel m x (a ∷ b ∷ c ∷ d ∷ [])
-    → Performs rel (star (l - 1) d) s m m0 w w0 r0 → Performs rel (sequence (l - 1) b r0.h) r0 m0 m1 w0 w1 r1
-    → Performs rel (sequence (l - 1) r1.h c) r1 m1 m2 w1 w2 r2 → Performs rel (union rel (l - 1) a r2.h) r2 m2 m3 w2 w3 r3
-    → Performs rel (star (l - 1) r3.h) r3 m3 m4 w3 w4 r4 → Performs rel (star_node (l - 1) r4.h r1.h c r0.h) r4 m4 m5 w4 w5 r
-    → (q ≡ r) × Remembered r 10 l x y w5 w6 → Performs rel p s m m5 w w6 q
-unfolding star
-star_returns l x y ok h u X d0 d1 d2 d3 d4 d k = called_kept 10 l x y ok (star_memo l x y) u
-    (called ok (opened1 _ _ l x h X) (performs_then d0 (performs_then d1 (performs_then d2 (performs_then d3 (performs_then d4 d)))))) k

@@ -4,10 +4,11 @@ use mathlib.Core.Logic.{inl, inr}
 use mathlib.Core.List.{List, [], ◌∷◌}
 use mathlib.Core.Bool.{Bool, true, false}
 use Prim.Native.Nat.{ℕ, zero, suc, ◌+◌, ◌-◌, ◌<◌}
+use Rattle.std.specs.Prelude.{Some}
 use native.Mathlib.Omega.{arith}
 use lib.ListN.{length}
 use lib.Dec.{T, lt→ltb}
-use Rattle.model.specs.FieldsFromIdentity.{from_identity}
+use Rattle.model.specs.FieldsFromIdentity.{IdentityHeld, from_identity}
 use Rattle.model.specs.Operations.{each_field}
 use Rattle.model.specs.Programs.{Prog, look, mk, ◌>>=◌}
 use Rattle.model.specs.Recursion.{x00, x01}
@@ -17,18 +18,14 @@ use Rattle.model.proofs.Bools.{no_true}
 use Rattle.model.proofs.FieldsFromIdentity.{fields_from_identity}
 use Rattle.model.proofs.Levels.{small, held_at}
 use Rattle.memory.specs.Noting.{KnownWord}
-use Rattle.memory.specs.Performing.{Performs, ReadsChildren}
+use Rattle.memory.specs.Performing.{RunState, Performs, ReadsChildren}
 use Rattle.memory.specs.Working.{properties_in, Has, Known}
 use Rattle.memory.specs.declared.Properties.{Properties}
-use Rattle.memory.specs.declared.RunState.{RunState}
 use Rattle.memory.proofs.Rows.{plain_length}
-use Rattle.memory.proofs.Steps.{begin, by, looked, performs_left, reduced}
+use Rattle.memory.proofs.Steps.{begin, by, looked, performs_left, called}
 use Rattle.relations.specs.Fields.{KnowsIdentity}
 
 -- WORDS
-pub says_nothing : {w : List ℕ} {n l r : ℕ} → r ≡ 0 → KnowsIdentity w n l r
-says_nothing e = record { knows = λ p. absurd (omega arith) }
-
 -- a handle below the count has a level
 number_held : (S : Store) (h : ℕ) → h < length S.rels + 2 → T (is_held rel S h)
 number_held S h b = elim (small h) [ inl x ↦ rw x.0 tt | inr x ↦ rw x.0 (lt→ltb (h - 2) (length S.rels) (omega (arith, x.1))) ]
@@ -46,19 +43,22 @@ word_says : (f : Properties → Bool) (v : ℕ) → f (properties_in 0) ≡ fals
 word_says f zero z e = absurd (no_true z e)
 word_says f (suc v) z e = omega arith
 
-pub identity_known : {w : List ℕ} {n l h e u v : ℕ} (p q : Properties) → KnownWord w 4 h u → KnownWord w 4 e v → p ≡ properties_in u → q ≡ properties_in v
-    → p.identity ≡ true → p.level ≡ l → q.empty ≡ true → q.level ≡ l → h < n + 2 → e < n + 2 → KnowsIdentity w n l h
-identity_known {e = e} {u = u} {v = v} p q U W x y pi pl qe ql i j = record {
-  knows = λ _ k S F ws c.
-      let P = word_has p x F (omega arith) (word_says (λ r. r.identity) u refl (sym (ap (λ (r : Properties). r.identity) x) ∙ pi)) (U rel k S refl F ws) in
+pub identity_known : {w : List ℕ} {n l h e u v : ℕ} (p q : Properties) → KnownWord w 4 h u → KnownWord w 4 e v → p ≡ properties_in u
+    → q ≡ properties_in v
+    → p.identity ≡ true → p.level ≡ l → q.empty ≡ true → q.level ≡ l → h < n + 2 → e < n + 2 → KnowsIdentity w n l (Some h)
+identity_known {l = l} {h} {e} {u} {v} p q U W x y pi pl qe ql i j = record {
+  knows = λ one eq k S F ws c.
+      let P = word_has p x F (omega arith) (word_says (λ r. r.identity) u refl (sym (ap (λ (r : Properties). r.identity) x) ∙ pi))
+      (U rel k S refl F ws) in
       let Q = word_has q y F (omega arith) (word_says (λ r. r.empty) v refl (sym (ap (λ (r : Properties). r.empty) y) ∙ qe)) (W rel k S refl F ws) in
-      record {
+      let at : h ≡ one = cc in
+      subst (IdentityHeld l S) at (record {
         held = rw (← pl) P.0;
         identity = rw (← pl) (P.1.identity refl ∙ pi);
         empty = e;
         empty_held = rw (← ql) Q.0;
         empty_is = rw (← ql) (Q.1.empty ∙ qe);
-      };
+      });
 }
 
 -- THE PROGRAM opened one step
@@ -75,12 +75,13 @@ identity_next at (suc v) one h = let e : v ≡ suc v - 1 = omega arith in
     ap (λ v. look rel one (λ x. from_identity at v (x00 x) >>= λ r. mk rel (r ∷ x01 x ∷ x01 x ∷ r ∷ []))) e
 
 module _ {s r : RunState} {m m' w w' : List ℕ} where
-  pub performs_looked : {p : Prog} {f : List ℕ → Prog} {h : ℕ} {x : List ℕ} → p ≡ look rel h f → ReadsChildren rel m h x → Performs rel (f x) s m m' w w' r
+  pub performs_looked : {p : Prog} {f : List ℕ → Prog} {h : ℕ} {x : List ℕ} → p ≡ look rel h f → ReadsChildren rel m h x → Performs rel
+      (f x) s m m' w w' r
       → Performs rel p s m m' w w' r
-  performs_looked e X = reduced (looked (by begin e) X)
+  performs_looked e X = called (looked (by begin e) X)
 
-  pub performs_from_identity : (at : ℕ → ℕ → List ℕ) (v l one : ℕ) → KnowsIdentity w s.n l one → (one ≡ 0 → ⊥) → v < l
+  pub performs_from_identity : (at : ℕ → ℕ → List ℕ) (v l one : ℕ) → KnowsIdentity w s.n l (Some one) → v < l
       → Performs rel (from_identity at v one) s m m' w w' r → Performs rel (each_field at v l 1 0) s m m' w w' r
-  performs_from_identity at v l one I p i d = performs_left (λ B c b a R.
-      let e = fields_from_identity at v R.formed (I.knows (omega arith) R.fields _ R.formed R.words (plain_length rel B m s.n)) i in
+  performs_from_identity at v l one I i d = performs_left (λ B c b a R.
+      let e = fields_from_identity at v R.formed (I.knows one refl R.fields _ R.formed R.words (plain_length rel B m s.n)) i in
       record { runs = e.runs; safe = e.safe a }) d

@@ -2,6 +2,5 @@ pub mod Nodes
 pub mod Opened
 pub mod ShortcutLaws
 pub mod Children
-pub mod Copied
 pub mod Naming
 pub mod Identities

@@ -14,7 +14,8 @@ use Rattle.relations.specs.declared.Shortcut.TheVariants.{Answer, Delegate, Recu
 use Rattle.relations.specs.Shortcuts.{by_shortcut, TakesShortcut, shortcut_of}
 
 -- tests were made before
-pub answers_later : {p q : Prog} {node : ℕ → ℕ → Prog} {m w : List ℕ} {r : Lookup} → Reduces rel p q m w → LooksUp rel q node m w r → LooksUp rel p node m w r
+pub answers_later : {p q : Prog} {node : ℕ → ℕ → Prog} {m w : List ℕ} {r : Lookup} → Reduces rel p q m w → LooksUp rel q node m w r
+    → LooksUp rel p node m w r
 answers_later {p} {q} {node} {m} {w} {r} u a = record {
   answers = λ B c n i s R. let x = u.left B c n i s R in go x r (a.answers B c n i x.safe R);
 }
@@ -34,7 +35,8 @@ module _ {p : Prog} {other : ℕ → Prog} {node : ℕ → ℕ → Prog} {m w : 
   pub shortcut_lookup : {q : Prog} {f : Lookup} {r : Shortcut} → Reduces rel p q m w → LooksUp rel q node m w f → r ≡ shortcut_of f
       → TakesShortcut p other node m w r
   shortcut_lookup {f = f} u a e = record {
-    takes = λ B n i s R. subst (λ z. by_shortcut p other node (plain rel B m n) z) (sym e) (go (plain rel B m n) f ((answers_later u a).answers B tt n i s R));
+    takes = λ B n i s R. subst (λ z. by_shortcut p other node (plain rel B m n) z) (sym e) (go (plain rel B m n) f
+        ((answers_later u a).answers B tt n i s R));
   }
     where
       go : (S : Store) (f : Lookup) → looked_up p node S f → by_shortcut p other node S (shortcut_of f)

@@ -1,3 +1,4 @@
 pub mod Shortcuts
 pub mod Fields
 pub mod Shapes
+pub mod Binary

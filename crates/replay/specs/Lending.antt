@@ -3,8 +3,6 @@ use Rattle.std.specs.Prelude.{List, ℕ, ◌≤◌, length}
 use Rattle.model.specs.Store.{set, rel}
 use Rattle.store_check.specs.Memory.{head}
 use Rattle.replay.specs.declared.runs.Lent.{Lent}
-use Rattle.replay.specs.declared.runs.Step.{Step}
-use Rattle.replay.specs.declared.runs.Step.TheVariants.{On, End}
 
 -- the heads are lent, and no more than there is
 pub record Lends (l : Lent) (r s : List ℕ) : Type 0 where
@@ -12,7 +10,3 @@ pub record Lends (l : Lent) (r s : List ℕ) : Type 0 where
   pub relations : l.relations ≤ length r
   pub set_head : head set ≤ l.sets
   pub sets : l.sets ≤ length s
-
-abbrev pub StepLends : Step → List ℕ → List ℕ → Type 0
-StepLends (On l) r s = Lends l r s
-StepLends End r s = Unit {0}

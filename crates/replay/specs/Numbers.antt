@@ -1,8 +1,6 @@
 -- What the functions that read numbers say.
-use Rattle.std.specs.Prelude.{◌≡◌, true, List, [], ◌∷◌, ℕ, ◌+◌, ◌-◌, ◌*◌, ◌<◌, ◌≤◌, length, take, drop, get_or}
+use Rattle.std.specs.Prelude.{◌≡◌, List, [], ◌∷◌, ℕ, ◌+◌, ◌-◌, ◌*◌, ◌<◌, ◌≤◌, length, take, drop, get_or, Option, IfSome}
 use Rattle.replay.specs.declared.lines.Row.{Row}
-use Rattle.replay.specs.declared.lines.Number.{Number}
-use Rattle.replay.specs.declared.lines.Number.TheVariants.{Is, Nothing}
 
 -- the number that decimal digits say, after those that say v
 unfoldable pub spelt : ℕ → List ℕ → ℕ
@@ -15,15 +13,15 @@ pub record Spells (line : List ℕ) (from v end : ℕ) : Type 0 where
   pub within : end ≤ length line
   pub value : v ≡ spelt 0 (take (end - from) (drop from line))
 
-abbrev pub ReadsNumber : List ℕ → ℕ → Number → Type 0
-ReadsNumber line from (Is v end) = Spells line from v end
-ReadsNumber line from Nothing = Unit {0}
+-- a number that is read, and where it ends
+abbrev pub ReadsNumber : List ℕ → ℕ → Option (ℕ × ℕ) → Type 0
+ReadsNumber line from r = IfSome r (λ p. Spells line from p.0 p.1)
 
 -- what the line has from a place on: these numbers, each after a space, and nothing else
 pub data Rest (line : List ℕ) : ℕ → List ℕ → Type 0 where
   none : {at : ℕ} → at ≡ length line → Rest line at []
   more : {at v end : ℕ} {xs : List ℕ} → get_or line at 0 ≡ 32 → Spells line (at + 1) v end → Rest line end xs → Rest line at (v ∷ xs)
 
--- a good row has all of them
-abbrev pub ReadsRow : List ℕ → ℕ → Row → Type 0
-ReadsRow line from r = r.good ≡ true → Rest line from (take r.count r.x)
+-- a row that is read has all of them
+abbrev pub ReadsRow : List ℕ → ℕ → Option Row → Type 0
+ReadsRow line from o = IfSome o (λ r. Rest line from (take r.count r.x))

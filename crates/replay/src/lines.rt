@@ -1,83 +1,58 @@
 // A line of text: a name, then numbers with one space before each.
-ghost use Rattle.std.specs.Prelude.{◌≤◌, length};
+ghost use Rattle.std.specs.Prelude.{◌-◌, ◌≤◌, length, IfSome};
 ghost use Rattle.replay.specs.Numbers.{ReadsNumber, ReadsRow};
 
-// A number and where it ends, or none.
-#[derive(Clone, Copy)]
-pub enum Number {
-    Is(u32, usize),
-    Nothing,
+// The first line of a text, and the text after its newline.
+pub fn split_line(text: &[u8]) -> (&[u8], &[u8])
+    ensures { length result.1.now ≤ length text.now - 1 }
+{
+    match text.iter().position(|b| *b == b'\n') {
+        Some(end) => (&text[..end], &text[end + 1..]),
+        None => (text, &[]),
+    }
 }
 
-// The numbers of a line, at most four, those that are not there 0; not good where something else follows the name.
+// The numbers of a line, at most four, those that are not there 0 (no heap, so an array and how many).
 #[derive(Clone, Copy)]
 pub struct Row {
-    pub good: bool,
     pub count: usize,
     pub x: [u32; 4],
 }
 
-// The number whose digits begin here, below 2^32.
-pub fn read_number(line: &[u8], from: usize) -> Number
+// The number whose digits begin here, below 2^32, and where it ends.
+pub fn read_number(line: &[u8], from: usize) -> Option<(u32, usize)>
     requires { from ≤ length line.now }
     ensures { ReadsNumber line.now from result }
 {
-    let mut value: u64 = 0;
-    let mut i = from;
-    while i < line.len() {
-        let d = line[i];
-        if d < b'0' || d > b'9' {
+    let mut value = 0u32;
+    let mut end = from;
+    for d in &line[from..] {
+        if !d.is_ascii_digit() {
             break;
         }
-        value = 10 * value + (d - b'0') as u64;
-        if value > 0xffff_ffff {
-            return Number::Nothing;
-        }
-        i += 1;
+        value = value.checked_mul(10)?.checked_add((*d - b'0') as u32)?;
+        end += 1;
     }
-    if i == from {
-        return Number::Nothing;
-    }
-    Number::Is(value as u32, i)
+    (from < end).then_some((value, end))
 }
 
-// The numbers from here to the end of the line.
-pub fn read_numbers(line: &[u8], from: usize) -> Row
+// The numbers from here to the end of the line; none where it has anything else. By their places, as `Rest` says it; a number has its own length.
+pub fn read_numbers(line: &[u8], from: usize) -> Option<Row>
     requires { from ≤ length line.now }
-    ensures { ReadsRow line.now from result }
+    ensures few { IfSome result (λ row. row.count ≤ 4) }
+    ensures all { ReadsRow line.now from result }
 {
     let mut x = [0u32; 4];
     let mut count = 0;
     let mut at = from;
     while at < line.len() {
-        if count == 4 {
-            return Row {
-                good: false,
-                count: count,
-                x: x,
-            };
+        if count == 4 || line[at] != b' ' {
+            return None;
         }
-        if line[at] != b' ' {
-            return Row {
-                good: false,
-                count: count,
-                x: x,
-            };
-        }
-        let Number::Is(value, end) = read_number(line, at + 1) else {
-            return Row {
-                good: false,
-                count: count,
-                x: x,
-            };
-        };
+        let (value, end) = read_number(line, at + 1)?;
         x[count] = value;
         count += 1;
         at = end;
     }
-    Row {
-        good: true,
-        count: count,
-        x: x,
-    }
+    Some(Row { count, x })
 }

@@ -1,32 +1,21 @@
--- `ifelse` on two sets: what it runs, from what its calls did.
-use mathlib.Core.Path.{◌≡◌, sym, subst}
+-- `ifelse` on two sets: what its node runs, from what its calls did.
+use mathlib.Core.Path.{◌≡◌}
 use mathlib.Core.List.{List, [], ◌∷◌}
-use mathlib.Core.Bool.{true}
-use Prim.Native.Nat.{ℕ, ◌+◌, ◌-◌, ◌<◌}
-use Rattle.model.specs.Programs.{mk}
+use Prim.Native.Nat.{ℕ, ◌-◌}
+use Rattle.model.specs.Programs.{mk, ◌>>=◌}
 use Rattle.model.specs.Sets.{ifelse}
 use Rattle.model.specs.Store.{set}
-use Rattle.memory.specs.Performing.{Performs, ReadsChildren, Remembered}
-use Rattle.memory.proofs.Remembering.{performs_remember}
-use Rattle.memory.proofs.Steps.{performs_then, begin, by, looked, called}
-use Rattle.memory.specs.declared.RunState.{RunState}
-use Rattle.sets.proofs.Opened.{ifelse_here, ifelse_below, ifelse_memo}
+use Rattle.memory.specs.Performing.{ReadsChildren, Reduces}
+use Rattle.memory.proofs.Steps.{begin, by, looked}
+use Rattle.sets.proofs.Opened.{ifelse_here, ifelse_below}
 
-module _ {s r q : RunState} {m m' w w₁ w₂ : List ℕ} (l v t e : ℕ) (i : v < 256) where
-  remembers : Performs set (ifelse l v t e) s m m' w w₁ r → (q ≡ r) × Remembered r (64 + v) l t e w₁ w₂ → Performs set (ifelse l v t e) s m m' w w₂ q
-  remembers d k = subst (λ z. Performs set (ifelse l v t e) s m m' w w₂ z) (sym k.0)
-      (performs_remember (64 + v) l t e (ifelse_memo l v t e i) d k.1)
-
+module _ {m w : List ℕ} (l v t e : ℕ) {t0 t1 e0 e1 : ℕ} (h : l ≡ 0 → ⊥) (X : ReadsChildren set m t (t0 ∷ t1 ∷ []))
+    (Y : ReadsChildren set m e (e0 ∷ e1 ∷ [])) where
   -- the field is that of the operands' nodes
-  pub here_returns : {t0 t1 e0 e1 : ℕ} → s.ok ≡ true → (l ≡ 0 → ⊥) → v ≡ 0 → ReadsChildren set m t (t0 ∷ t1 ∷ []) → ReadsChildren set m e (e0 ∷ e1 ∷ [])
-      → Performs set (mk set (e0 ∷ t1 ∷ [])) s m m' w w₁ r → (q ≡ r) × Remembered r (64 + v) l t e w₁ w₂ → Performs set (ifelse l v t e) s m m' w w₂ q
-  here_returns ok h g X Y d k = remembers (called ok (looked (looked (by begin (ifelse_here l v t e h g)) X) Y) d) k
+  pub here_left : v ≡ 0 → Reduces set (ifelse l v t e) (mk set (e0 ∷ t1 ∷ [])) m w
+  here_left g = looked (looked (by begin (ifelse_here l v t e h g)) X) Y
 
   -- it is below
-  pub below_returns : {r0 r1 : RunState} {m1 m2 w1 w2 : List ℕ} {t0 t1 e0 e1 : ℕ} → s.ok ≡ true → (l ≡ 0 → ⊥) → (v ≡ 0 → ⊥)
-      → ReadsChildren set m t (t0 ∷ t1 ∷ []) → ReadsChildren set m e (e0 ∷ e1 ∷ [])
-      → Performs set (ifelse (l - 1) (v - 1) t0 e0) s m m1 w w1 r0 → Performs set (ifelse (l - 1) (v - 1) t1 e1) r0 m1 m2 w1 w2 r1
-      → Performs set (mk set (r0.h ∷ r1.h ∷ [])) r1 m2 m' w2 w₁ r → (q ≡ r) × Remembered r (64 + v) l t e w₁ w₂
-      → Performs set (ifelse l v t e) s m m' w w₂ q
-  below_returns ok h g X Y d0 d1 d k = remembers
-      (called ok (looked (looked (by begin (ifelse_below l v t e h g)) X) Y) (performs_then d0 (performs_then d1 d))) k
+  pub below_left : (v ≡ 0 → ⊥) → Reduces set (ifelse l v t e)
+      (ifelse (l - 1) (v - 1) t0 e0 >>= λ r0. ifelse (l - 1) (v - 1) t1 e1 >>= λ r1. mk set (r0 ∷ r1 ∷ [])) m w
+  below_left g = looked (looked (by begin (ifelse_below l v t e h g)) X) Y

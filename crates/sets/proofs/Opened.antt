@@ -1,54 +1,17 @@
 -- The programs of sets opened one step, and their numbers in the memo.
-use mathlib.Core.Path.{◌≡◌, refl, sym, ap, ◌∙◌}
-use mathlib.Core.List.{List, [], ◌∷◌}
+use mathlib.Core.Path.{◌≡◌, refl, sym, ap}
+use mathlib.Core.List.{[], ◌∷◌}
 use mathlib.Core.Bool.{true, false}
 use Prim.Native.Nat.{ℕ, zero, suc, ◌+◌, ◌-◌, ◌<◌}
 use native.Mathlib.Omega.{arith}
 use lib.Dec.{ltb}
-use borrow.Author.Tests.{ne_eqb, lt-ltb, le-ltb}
-use Rattle.model.specs.Operations.{constant, is_zero, complement, union_tests, union_op, union, intersect, xor_tests, xor_op, xor, difference, raise}
-use Rattle.model.specs.Programs.{is_empty, same, has, panic, ret, ask, look, mk, ◌>>=◌}
-use Rattle.model.specs.Recursion.{node2, op2, x0, x1, each2}
+use borrow.Author.Tests.{lt-ltb, le-ltb}
+use Rattle.model.specs.Operations.{is_zero, complement, union, intersect, difference, raise}
+use Rattle.model.specs.Programs.{is_empty, has, panic, ret, ask, look, mk, ◌>>=◌}
+use Rattle.model.specs.Recursion.{node2, op2, x0, x1}
 use Rattle.model.specs.Sets.{intersects_tests, intersects_op, intersects, ifelse}
 use Rattle.model.specs.Store.{set, signed}
-use Rattle.model.proofs.Recursion.{node2_open}
-use Rattle.memory.specs.Performing.{Reduces}
-use Rattle.memory.specs.Memo.{memo_program, op_set_union, op_set_xor, op_intersects, op_ifelse}
-use Rattle.memory.proofs.Steps.{begin, by, no, same_says}
-
--- UNION
-module _ (l a b : ℕ) where
-  pub union_is : union set l a b ≡
-      ask (same a b) (ret a) (ask (same a (signed 1 b)) (constant set 1 l) (union_tests set l a b (node2 (union_op set) l)))
-  unfolding union op2
-  union_is = refl
-
-  pub union_memo : node2 (union_op set) l a b ≡ memo_program op_set_union l a b
-  unfolding memo_program
-  union_memo = refl
-
-  pub union_node : (l ≡ 0 → ⊥) → node2 (union_op set) l a b ≡ look set a (λ x. look set b (λ y. each2 set (union set (l - 1)) x y))
-  unfolding union
-  union_node h = node2_open (union_op set) l a b h
-
-  -- the tests on equal and opposite operands do not answer
-  pub union_tested : {m w : List ℕ} (o : ℕ) → (a ≡ b → ⊥) → o ≡ signed 1 b → (a ≡ o → ⊥) →
-      Reduces set (union set l a b) (union_tests set l a b (node2 (union_op set) l)) m w
-  union_tested o h e n = no (no (by begin union_is) (same_says (ne_eqb a b h))) (same_says (ne_eqb a (signed 1 b) (λ q. n (q ∙ sym e))))
-
--- XOR: what its program is, and its number in the memo
-module _ (l a b : ℕ) where
-  pub xor_is : xor set l a b ≡ ask (same a b) (constant set 0 l) (xor_tests set l a b (node2 (xor_op set) l))
-  unfolding xor op2
-  xor_is = refl
-
-  pub xor_memo : node2 (xor_op set) l a b ≡ memo_program op_set_xor l a b
-  unfolding memo_program
-  xor_memo = refl
-
-  -- the test on equal operands does not answer
-  pub xor_tested : {m w : List ℕ} → (a ≡ b → ⊥) → Reduces set (xor set l a b) (xor_tests set l a b (node2 (xor_op set) l)) m w
-  xor_tested h = no (by begin xor_is) (same_says (ne_eqb a b h))
+use Rattle.memory.specs.Memo.{memo_program, op_intersects, op_ifelse}
 
 -- INTERSECTS
 module _ (l a b : ℕ) where

@@ -1,27 +1,46 @@
--- An operation on two sets, child by child: what its node runs, from what its calls did.
-use mathlib.Core.Path.{◌≡◌, sym, subst}
+-- An operation on two sets, step by step: its tests on equal and opposite operands, and its node, whose operands' children are read.
+use mathlib.Core.Path.{◌≡◌, refl, sym, ap, ◌∙◌}
 use mathlib.Core.List.{List, [], ◌∷◌}
-use mathlib.Core.Bool.{true}
+use mathlib.Core.Bool.{Bool, true, false}
 use Prim.Native.Nat.{ℕ, ◌-◌}
-use Rattle.model.specs.Programs.{Prog, mk}
-use Rattle.model.specs.Recursion.{Op2, node2, op2, each2}
-use Rattle.model.specs.Store.{set}
+use borrow.Author.Tests.{eq-eqb, ne_eqb}
+use Rattle.model.specs.Operations.{constant}
+use Rattle.model.specs.Programs.{same, ask}
+use Rattle.model.specs.Recursion.{node2, op2, each2}
+use Rattle.model.specs.Store.{set, signed}
 use Rattle.model.proofs.Recursion.{node2_open}
-use Rattle.memory.specs.Performing.{Performs, ReadsChildren, Remembered, Reduces}
-use Rattle.memory.specs.Memo.{memo_program}
-use Rattle.memory.proofs.Remembering.{performs_remember}
-use Rattle.memory.proofs.Steps.{performs_then, begin, by, looked, called}
-use Rattle.memory.specs.declared.RunState.{RunState}
+use Rattle.memory.specs.Performing.{ReadsChildren, Reduces}
+use Rattle.memory.proofs.Steps.{begin, by, yes, no, looked, same_says}
+use Rattle.sets.specs.Binary.{Tests, on_equal, on_opposite, binary}
 
-abbrev pub pointwise : (ℕ → ℕ → ℕ → (ℕ → ℕ → Prog) → Prog) → Op2
-pointwise short = record { first = set; second = set; short = short; kids = λ l. each2 set }
+binary_is : (cancels : Bool) (tests : Tests) (l a b : ℕ) → op2 (binary cancels tests) l a b
+    ≡ ask (same a b) (on_equal cancels l a) (on_opposite cancels l a b (tests l a b (node2 (binary cancels tests) l)))
+unfolding op2
+binary_is cancels tests l a b = refl
 
-pub pair_returns : {p : Prog} {s r0 r1 r q : RunState} {m m1 m2 m3 w w1 w2 w3 w4 : List ℕ}
-    (short : ℕ → ℕ → ℕ → (ℕ → ℕ → Prog) → Prog) (op l x y : ℕ) {p0 p1 q0 q1 : ℕ}
-    → s.ok ≡ true → (l ≡ 0 → ⊥) → node2 (pointwise short) l x y ≡ memo_program op l x y → Reduces set p (node2 (pointwise short) l x y) m w
-    → ReadsChildren set m x (p0 ∷ p1 ∷ []) → ReadsChildren set m y (q0 ∷ q1 ∷ [])
-    → Performs set (op2 (pointwise short) (l - 1) p0 q0) s m m1 w w1 r0 → Performs set (op2 (pointwise short) (l - 1) p1 q1) r0 m1 m2 w1 w2 r1
-    → Performs set (mk set (r0.h ∷ r1.h ∷ [])) r1 m2 m3 w2 w3 r → (q ≡ r) × Remembered r op l x y w3 w4 → Performs set p s m m3 w w4 q
-pair_returns {p} {s} {r0} {r1} {r} {q} {m} {m1} {m2} {m3} {w} {w1} {w2} {w3} {w4} short op l x y ok h e u X Y d0 d1 d2 k =
-    let n = called ok (looked (looked (by begin (node2_open (pointwise short) l x y h)) X) Y) (performs_then d0 (performs_then d1 d2)) in
-    subst (λ z. Performs set p s m m3 w w4 z) (sym k.0) (called ok u (performs_remember op l x y e n k.1))
+module _ (cancels : Bool) (tests : Tests) (l a b : ℕ) {m w : List ℕ} where
+  differ : (a ≡ b → ⊥) → Reduces set (op2 (binary cancels tests) l a b) (on_opposite cancels l a b (tests l a b (node2 (binary cancels tests) l))) m w
+  differ h = no (by begin (binary_is cancels tests l a b)) (same_says (ne_eqb a b h))
+
+  -- equal operands
+  pub equal : {c : Bool} → a ≡ b → cancels ≡ c → Reduces set (op2 (binary cancels tests) l a b) (on_equal c l a) m w
+  equal h e = by (yes (by begin (binary_is cancels tests l a b)) (same_says (eq-eqb a b h))) (ap (λ c. on_equal c l a) e)
+
+  -- opposite ones, of which b's other handle is o
+  pub opposite : (o : ℕ) → (a ≡ b → ⊥) → cancels ≡ false → o ≡ signed 1 b → a ≡ o → Reduces set (op2 (binary cancels tests) l a b) (constant set 1 l) m w
+  opposite o h e f g = yes (by (differ h) (ap (λ c. on_opposite c l a b (tests l a b (node2 (binary cancels tests) l))) e))
+      (same_says (eq-eqb a (signed 1 b) (g ∙ f)))
+
+  -- others, and opposite ones too where equal ones cancel
+  pub cancelled : (a ≡ b → ⊥) → cancels ≡ true → Reduces set (op2 (binary cancels tests) l a b) (tests l a b (node2 (binary cancels tests) l)) m w
+  cancelled h e = by (differ h) (ap (λ c. on_opposite c l a b (tests l a b (node2 (binary cancels tests) l))) e)
+
+  pub unopposed : (o : ℕ) → (a ≡ b → ⊥) → cancels ≡ false → o ≡ signed 1 b → (a ≡ o → ⊥)
+      → Reduces set (op2 (binary cancels tests) l a b) (tests l a b (node2 (binary cancels tests) l)) m w
+  unopposed o h e f g = no (by (differ h) (ap (λ c. on_opposite c l a b (tests l a b (node2 (binary cancels tests) l))) e))
+      (same_says (ne_eqb a (signed 1 b) (λ q. g (q ∙ sym f))))
+
+  -- the operands' children are read
+  pub opened : {p0 p1 q0 q1 : ℕ} → (l ≡ 0 → ⊥) → ReadsChildren set m a (p0 ∷ p1 ∷ []) → ReadsChildren set m b (q0 ∷ q1 ∷ [])
+      → Reduces set (node2 (binary cancels tests) l a b) (each2 set (op2 (binary cancels tests) (l - 1)) (p0 ∷ p1 ∷ []) (q0 ∷ q1 ∷ [])) m w
+  opened h X Y = looked (looked (by begin (node2_open (binary cancels tests) l a b h)) X) Y

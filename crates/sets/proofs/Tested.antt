@@ -1,20 +1,31 @@
--- `test` of a field: what it runs, from what its calls did.
+-- `test` of a field: what is left of it after the set at depth, and its answer.
 use mathlib.Core.Path.{◌≡◌, sym, ap, ◌∙◌}
 use mathlib.Core.List.{List, [], ◌∷◌}
-use mathlib.Core.Bool.{Bool}
+use mathlib.Core.Bool.{Bool, true, false}
 use Prim.Native.Nat.{ℕ, ◌-◌}
+use Rattle.std.specs.Prelude.{Option, None}
 use Rattle.model.specs.Operations.{constant, raise, test}
-use Rattle.model.specs.Programs.{mk, ret}
+use Rattle.model.specs.Programs.{mk, ret, ◌>>=◌}
 use Rattle.model.specs.Store.{set, pick, signed}
-use Rattle.memory.specs.Performing.{run_state, Performs}
-use Rattle.memory.proofs.Steps.{performs_then, performs_by, performs_ret}
-use Rattle.memory.specs.declared.RunState.{RunState}
+use Rattle.memory.specs.Performing.{RunState, run_state, going, ended, Performs}
+use Rattle.memory.proofs.Steps.{performs_by, performs_ret}
+use Rattle.memory.proofs.Stopping.{made, failed}
 
-pub test_returns : {s z t r q : RunState} {m m1 m2 m3 w w1 w2 w3 : List ℕ} (k v : ℕ) (b c : Bool) {n o g : ℕ} → n ≡ k - v - 1
-    → Performs set (constant set 0 n) s m m1 w w1 z → o ≡ signed 1 z.h → Performs set (mk set (z.h ∷ o ∷ [])) z m1 m2 w1 w2 t
-    → Performs set (raise v t.h) t m2 m3 w2 w3 r → b ≡ c → g ≡ signed (pick c 0 1) r.h → q ≡ run_state r.ok r.n g
-    → Performs set (test set k v b) s m m3 w w3 q
-unfolding test
-test_returns {z = z} {r = r} k v b c e d0 f d1 d2 h g q =
-    performs_then (performs_by (ap (constant set 0) (sym e)) d0) (performs_then (performs_by (ap (λ y. mk set (z.h ∷ y ∷ [])) (sym f)) d1)
-    (performs_then d2 (performs_by (ap (λ x. ret (signed (pick x 0 1) r.h)) h ∙ ap ret (sym g)) (performs_ret _ q))))
+module _ {s : RunState} {n0 : ℕ} {m m1 w w1 : List ℕ} (k v : ℕ) (b : Bool) {f : ℕ} (e : f ≡ k - v - 1) where
+  pub zero_fails : {r : Option ℕ} → Performs set (constant set 0 f) s m m1 w w1 (run_state false n0 0) → r ≡ None
+      → Performs set (test set k v b) s m m1 w w1 (ended n0 r)
+  unfolding test
+  zero_fails d x = failed (performs_by (ap (constant set 0) (sym e)) d) x
+
+  -- z is made, and its node, whose second child is o, is next
+  pub zero_made : {z o : ℕ} {q : RunState} {m2 w2 : List ℕ} → Performs set (constant set 0 f) s m m1 w w1 (run_state true n0 z) → o ≡ signed 1 z
+      → Performs set (mk set (z ∷ o ∷ []) >>= λ t. raise v t >>= λ r. ret (signed (pick b 0 1) r)) (going n0) m1 m2 w1 w2 q
+      → Performs set (test set k v b) s m m2 w w2 q
+  unfolding test
+  zero_made {z} d g a = made (performs_by (ap (constant set 0) (sym e)) d)
+      (performs_by (ap (λ y. mk set (z ∷ y ∷ []) >>= λ t. raise v t >>= λ r. ret (signed (pick b 0 1) r)) (sym g)) a)
+
+-- the answer for the value c
+pub test_gives : {n h : ℕ} {m w : List ℕ} (b c : Bool) (i : ℕ) → b ≡ c → h ≡ signed (pick c 0 1) i
+    → Performs set (ret (signed (pick b 0 1) i)) (going n) m m w w (run_state true n h)
+test_gives b c i y h = performs_by (ap (λ q. ret (signed (pick q 0 1) i)) y ∙ ap ret (sym h)) performs_ret

@@ -3,55 +3,54 @@ ghost use Rattle.std.specs.Prelude.{◌≡◌, ◌-◌};
 ghost use Rattle.model.specs.Store.{set};
 ghost use Rattle.model.specs.Operations.{raise, test};
 ghost use Rattle.model.specs.Sets.{ifelse};
-ghost use Rattle.memory.specs.Performing.{Performs};
+ghost use Rattle.memory.specs.Performing.{going, ended, Performs};
 
-use memory::RunState;
+use memory::memo;
+use memory::property_words::other;
 
 // The first set where field var is 1, else the second; both of this level, which is above the field.
 pub fn ifelse(
     nodes: &mut [u32],
     work: &mut [u32],
-    s: RunState,
+    n: &mut usize,
     level: u8,
     var: u8,
     then_branch: u32,
     else_branch: u32,
-) -> RunState
-    ensures { Performs set (ifelse level var then_branch else_branch) s
-        nodes.old nodes.new work.old work.new result }
+) -> Option<u32>
+    ensures { Performs set (ifelse level var then_branch else_branch) (going n.old)
+        nodes.old nodes.new work.old work.new (ended n.new result) }
 {
-    if !s.ok {
-        return s;
-    }
     if level == 0 {
-        return s;
+        return None;
     }
-    let op = memory::memo::IFELSE + var as u32;
-    let found = memory::memo::recall(work, op, level, then_branch, else_branch);
-    if let memory::Lookup::Answer(h) = found {
-        return memory::insert::with_handle(s, h);
+    let op = memo::IFELSE + var as u32;
+    if let Some(h) = memo::recall(work, op, level, then_branch, else_branch) {
+        return Some(h);
     }
     let t = crate::get(nodes, then_branch);
     let e = crate::get(nodes, else_branch);
     if var == 0 {
-        let r = crate::mk(nodes, work, s, e.x0, t.x1);
-        return memory::memo::remember(work, r, op, level, then_branch, else_branch);
+        let r = crate::mk(nodes, work, n, e.x0, t.x1)?;
+        memo::keep(work, op, level, then_branch, else_branch, r);
+        return Some(r);
     }
-    let r0 = ifelse(nodes, work, s, level - 1, var - 1, t.x0, e.x0);
-    let r1 = ifelse(nodes, work, r0, level - 1, var - 1, t.x1, e.x1);
-    let r = crate::mk(nodes, work, r1, r0.h, r1.h);
-    memory::memo::remember(work, r, op, level, then_branch, else_branch)
+    let r0 = ifelse(nodes, work, n, level - 1, var - 1, t.x0, e.x0)?;
+    let r1 = ifelse(nodes, work, n, level - 1, var - 1, t.x1, e.x1)?;
+    let r = crate::mk(nodes, work, n, r0, r1)?;
+    memo::keep(work, op, level, then_branch, else_branch, r);
+    Some(r)
 }
 
-// The set r .h with n more fields before its own.
-fn raise(nodes: &mut [u32], work: &mut [u32], r: RunState, n: u8) -> RunState
-    ensures { Performs set (raise n r.h) r nodes.old nodes.new work.old work.new result }
+// The set h with this many more fields before its own.
+fn raise(nodes: &mut [u32], work: &mut [u32], n: &mut usize, h: u32, fields: u8) -> Option<u32>
+    ensures { Performs set (raise fields h) (going n.old) nodes.old nodes.new work.old work.new (ended n.new result) }
 {
-    if n == 0 {
-        return r;
+    if fields == 0 {
+        return Some(h);
     }
-    let t = crate::mk(nodes, work, r, r.h, r.h);
-    raise(nodes, work, t, n - 1)
+    let t = crate::mk(nodes, work, n, h, h)?;
+    raise(nodes, work, n, t, fields - 1)
 }
 
 // How many fields of k are after field var.
@@ -65,18 +64,15 @@ fn fields_after(k: u8, var: u8) -> u8
 pub fn test(
     nodes: &mut [u32],
     work: &mut [u32],
-    s: RunState,
+    n: &mut usize,
     k: u8,
     var: u8,
     value: bool,
-) -> RunState
-    ensures { Performs set (test set k var value) s nodes.old nodes.new work.old work.new result }
+) -> Option<u32>
+    ensures { Performs set (test set k var value) (going n.old) nodes.old nodes.new work.old work.new (ended n.new result) }
 {
-    let z = crate::zero_at_depth(nodes, work, s, fields_after(k, var));
-    let m = crate::mk(nodes, work, z, z.h, memory::property_words::other(z.h));
-    let r = raise(nodes, work, m, var);
-    if value {
-        return memory::insert::with_handle(r, r.h);
-    }
-    memory::insert::with_handle(r, memory::property_words::other(r.h))
+    let z = crate::zero_at_depth(nodes, work, n, fields_after(k, var))?;
+    let m = crate::mk(nodes, work, n, z, other(z))?;
+    let r = raise(nodes, work, n, m, var)?;
+    Some(if value { r } else { other(r) })
 }

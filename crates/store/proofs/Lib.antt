@@ -1,3 +1,4 @@
+pub mod Arms
 pub mod SetMeant
 pub mod RelationMeant
 pub mod ImageMeant

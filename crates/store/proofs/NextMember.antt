@@ -7,7 +7,7 @@ use mathlib.Core.Option.{none}
 use mathlib.Core.Bool.{true, ◌||◌}
 use Prim.Native.Nat.{ℕ, ◌+◌, ◌^◌, ◌<◌, ◌≤◌, zero-le}
 use native.Mathlib.Omega.{arith}
-use borrow.Author.Tests.{eq-eqb, ne_eqb, ltb-true, lt-ltb}
+use borrow.Author.Tests.{eq-eqb, ltb-true, lt-ltb}
 use lib.Dec.{eqb, ltb}
 use Rattle.model.specs.FieldOrder.{is_before, rank}
 use Rattle.model.specs.FirstPair.{first_packet, LeastRank}
@@ -56,11 +56,6 @@ module _ (l : ℕ) (c : Cursor) where
   Answers m w z = (n : ℕ) → Answered set m w n (λ S. SetReadSafe S l (Next c)) (λ S. set_read_answer S l (Next c)) z
 
   module _ {m w : List ℕ} where
-    pub end_met : (c.ended ≡ 0 → ⊥) → Answers m w Nothing
-    end_met h n = record {
-      answers = λ B q i R s. sym (ap (λ b. as_member (pick b (first_packet l (is_to_come (plain set B m n) l c)) none)) (ne_eqb c.ended 0 h));
-    }
-
     -- the search from that rank found r
     module _ (e : c.ended ≡ 0) {f : ℕ} (r : ℕ) (G : FindsFrom l c.handle f m w r) (ef : f ≡ from_rank l c) where
       F : FindsFrom l c.handle (from_rank l c) m w r

@@ -5,6 +5,7 @@ use Prim.Native.Nat.{ℕ, suc, ◌+◌, ◌*◌, ◌≤◌}
 use native.Mathlib.Omega.{arith}
 use lib.Dec.{eqb}
 use lib.ListN.{get_or, drop}
+use Rattle.std.specs.Prelude.{Ok}
 use Rattle.model.specs.Store.{rel, Store}
 use Rattle.model.specs.Packets.{relates}
 use Rattle.model.specs.Programs.{Prog, mk}
@@ -21,7 +22,6 @@ use Rattle.store.specs.Meanings.{relation_meaning}
 use Rattle.call_rules.specs.Outcome.{of_one, of_two}
 use Rattle.store.specs.RelationCalls.{relation_declines, relation_program, relation_read_declines}
 use Rattle.store.specs.RelationChecking.{RelationFieldFits, RelationReadSafe}
-use Rattle.call_rules.specs.declared.Check.TheVariants.{Level}
 use Rattle.store.specs.declared.relation_calls.RelationCall.{RelationCall}
 use Rattle.store.specs.declared.relation_calls.RelationCall.TheVariants as R
 use Rattle.store.specs.declared.relation_reads.RelationRead.{RelationRead}
@@ -31,17 +31,17 @@ use Rattle.call_rules.proofs.Declining.{guard_passed, also_passed, one_passed, t
 -- CALLS THAT MAY ADD RELATIONS
 module _ {k : ℕ} {S : Store} {l : ℕ} (F : WellFormed k S) where
   -- an operation on one relation, and on two of one level
-  pub single : (a : ℕ) (f : ℕ → Prog) (φ : ℕ → Store → ℕ → Type 0) → of_one k rel S a ≡ Level l
+  pub single : (a : ℕ) (f : ℕ → Prog) (φ : ℕ → Store → ℕ → Type 0) → of_one k rel S a ≡ Ok l
       → ((j : ℕ) → j ≤ k → Relates j (relates S a) S a → Does k S (f j) (φ j)) → Does k S (f l) (φ (level_of k rel S a))
   single a f φ e D = let t = one_passed F rel a e in subst (λ j. Does k S (f l) (φ j)) (sym t.level) (D l t.low (relates_own S l a t.held))
 
-  pair : (a b : ℕ) (f : ℕ → Prog) (φ : ℕ → Store → ℕ → Type 0) → of_two k rel S a b ≡ Level l
+  pair : (a b : ℕ) (f : ℕ → Prog) (φ : ℕ → Store → ℕ → Type 0) → of_two k rel S a b ≡ Ok l
       → ((j : ℕ) → j ≤ k → Relates j (relates S a) S a → Relates j (relates S b) S b → Does k S (f j) (φ j)) → Does k S (f l) (φ (level_of k rel S a))
   pair a b f φ e D =
       let t = two_passed F rel a b e in
       subst (λ j. Does k S (f l) (φ j)) (sym t.0.level) (D l t.0.low (relates_own S l a t.0.held) (relates_own S l b t.1.held))
 
-  pub relation_does : (c : RelationCall) → relation_declines k c S ≡ Level l → Does k S (relation_program k l c) (relation_meaning k c S)
+  pub relation_does : (c : RelationCall) → relation_declines k c S ≡ Ok l → Does k S (relation_program k l c) (relation_meaning k c S)
   unfolding relation_meaning
   relation_does (R.Mk a b c d) e =
       let s = also_passed _ _ _ e in
@@ -70,7 +70,7 @@ module _ {k : ℕ} {S : Store} {l : ℕ} (F : WellFormed k S) where
   relation_does (R.Backward a) e = single a _ _ e (λ l i A. backward_does l a F i A)
 
   -- the field that it names is below 256
-  pub relation_field_small : (c : RelationCall) → k ≤ 32 → relation_declines k c S ≡ Level l → RelationFieldFits c
+  pub relation_field_small : (c : RelationCall) → k ≤ 32 → relation_declines k c S ≡ Ok l → RelationFieldFits c
   relation_field_small (R.Mk a b c d) i e = tt
   relation_field_small R.Zero i e = tt
   relation_field_small R.One i e = tt
@@ -89,7 +89,7 @@ module _ {k : ℕ} {S : Store} {l : ℕ} (F : WellFormed k S) where
   relation_field_small (R.Backward a) i e = tt
 
   -- CALLS THAT ADD NOTHING: what a call reads is there
-  pub relation_read_safe : (c : RelationRead) → relation_read_declines k c S ≡ Level l → RelationReadSafe S l c
+  pub relation_read_safe : (c : RelationRead) → relation_read_declines k c S ≡ Ok l → RelationReadSafe S l c
   relation_read_safe (Q.Get a) e =
       let t = also_passed _ _ _ e in
       let q = above l t.1 in

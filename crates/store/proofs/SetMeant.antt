@@ -5,6 +5,7 @@ use Prim.Native.Nat.{ℕ, ◌<◌, ◌≤◌}
 use native.Mathlib.Omega.{arith}
 use lib.Dec.{eqb}
 use lib.ListN.{get_or, drop}
+use Rattle.std.specs.Prelude.{Ok}
 use Rattle.model.specs.Store.{set, Store}
 use Rattle.model.specs.Packets.{contains}
 use Rattle.model.specs.Programs.{Prog}
@@ -19,7 +20,6 @@ use Rattle.store.specs.Meanings.{set_meaning}
 use Rattle.call_rules.specs.Outcome.{of_one, of_two}
 use Rattle.store.specs.SetCalls.{set_declines, set_program, set_read_declines}
 use Rattle.store.specs.SetChecking.{SetFieldFits, SetReadSafe}
-use Rattle.call_rules.specs.declared.Check.TheVariants.{Level}
 use Rattle.store.specs.declared.set_calls.SetCall.{SetCall}
 use Rattle.store.specs.declared.set_calls.SetCall.TheVariants.{Mk, Zero, One, Union, Intersect, Xor, Difference, Test, Ifelse}
 use Rattle.store.specs.declared.set_reads.SetRead.{SetRead}
@@ -29,19 +29,19 @@ use Rattle.call_rules.proofs.Declining.{guard_passed, also_passed, one_passed, t
 -- CALLS THAT MAY ADD SETS
 module _ {k : ℕ} {S : Store} {l : ℕ} (F : WellFormed k S) where
   -- an operation on one set
-  pub set_single : (a : ℕ) (f : ℕ → Prog) (φ : ℕ → Store → ℕ → Type 0) → of_one k set S a ≡ Level l
+  pub set_single : (a : ℕ) (f : ℕ → Prog) (φ : ℕ → Store → ℕ → Type 0) → of_one k set S a ≡ Ok l
       → ((j : ℕ) → j ≤ k → Den set j (contains S a) S a → Does k S (f j) (φ j)) → Does k S (f l) (φ (level_of k set S a))
   set_single a f φ e D = let t = one_passed F set a e in subst (λ j. Does k S (f l) (φ j)) (sym t.level) (D l t.low (own set S l a t.held))
 
   -- an operation on two sets of one level
-  pair : (a b : ℕ) (f : ℕ → Prog) (φ : ℕ → Store → ℕ → Type 0) → of_two k set S a b ≡ Level l
+  pair : (a b : ℕ) (f : ℕ → Prog) (φ : ℕ → Store → ℕ → Type 0) → of_two k set S a b ≡ Ok l
       → ((j : ℕ) → l ≡ j → j ≤ k → Den set j (contains S a) S a → Den set j (contains S b) S b → Does k S (f j) (φ j))
       → Does k S (f l) (φ (level_of k set S a))
   pair a b f φ e D =
       let t = two_passed F set a b e in
       subst (λ j. Does k S (f l) (φ j)) (sym t.0.level) (D l refl t.0.low (own set S l a t.0.held) (own set S l b t.1.held))
 
-  pub set_does : (c : SetCall) → set_declines k c S ≡ Level l → Does k S (set_program k l c) (set_meaning k c S)
+  pub set_does : (c : SetCall) → set_declines k c S ≡ Ok l → Does k S (set_program k l c) (set_meaning k c S)
   unfolding set_meaning
   set_does (Mk a b) e =
       let t = also_passed _ _ _ e in
@@ -59,7 +59,7 @@ module _ {k : ℕ} {S : Store} {l : ℕ} (F : WellFormed k S) where
       pair t e _ _ q.0 (λ j z i A B. ifelse_does j v t e F i (subst (λ j. v < j) z (less _ _ q.1)) A B)
 
   -- the field that it names is below 256
-  pub set_field_small : (c : SetCall) → k ≤ 32 → set_declines k c S ≡ Level l → SetFieldFits c
+  pub set_field_small : (c : SetCall) → k ≤ 32 → set_declines k c S ≡ Ok l → SetFieldFits c
   set_field_small (Mk a b) i e = tt
   set_field_small Zero i e = tt
   set_field_small One i e = tt
@@ -71,7 +71,7 @@ module _ {k : ℕ} {S : Store} {l : ℕ} (F : WellFormed k S) where
   set_field_small (Ifelse v t e) i d = let h = less v k (guard_passed _ _ d).0 in omega arith
 
   -- CALLS THAT ADD NOTHING: what a call reads is there
-  pub set_read_safe : (c : SetRead) → set_read_declines k c S ≡ Level l → SetReadSafe S l c
+  pub set_read_safe : (c : SetRead) → set_read_declines k c S ≡ Ok l → SetReadSafe S l c
   set_read_safe (Get a) e =
       let t = also_passed _ _ _ e in
       let q = above l t.1 in

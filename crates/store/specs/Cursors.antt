@@ -1,6 +1,6 @@
 -- The members of a set, one at a time, by a record that the caller lends: 02, M-103, "the set's handle, the last header given, whether any was
 -- given, whether the end was met". Of a mark 0 is no and any other number yes, so that any numbers in the record have a meaning.
-use Rattle.std.specs.Prelude.{List, Bool, ◌&&◌, ◌||◌, ℕ, ◌^◌, eqb, ltb}
+use Rattle.std.specs.Prelude.{Result, Ok, Err, List, Bool, ◌&&◌, ◌||◌, ℕ, ◌^◌, eqb, ltb}
 use Rattle.std.proofs.Math.Option.{Option, none, some}
 use Rattle.model.specs.Store.{Store, pick}
 use Rattle.model.specs.Packets.{packet, number}
@@ -8,7 +8,8 @@ use Rattle.model.specs.FieldOrder.{is_before}
 use Rattle.model.specs.FirstPair.{first_packet}
 use Rattle.model.specs.Members.{is_member}
 use Rattle.call_rules.specs.declared.Answer.{Answer}
-use Rattle.call_rules.specs.declared.Answer.TheVariants.{Handle, Truth, SetNode, RelationNode, Declined, Pair, Nothing, Member}
+use Rattle.call_rules.specs.declared.Answer.TheVariants.{Handle, Truth, SetNode, RelationNode, Pair, Nothing, Member}
+use Rattle.call_rules.specs.declared.Refusal.{Refusal}
 use Rattle.store.specs.declared.set_reads.Cursor.{Cursor}
 
 -- whether the last packet, where one was given, has a number of level l
@@ -35,12 +36,12 @@ abbrev pub at_end : Cursor → Cursor
 at_end c = record { handle = c.handle; last = c.last; given = c.given; ended = pick (eqb c.ended 0) 1 c.ended }
 
 -- "A refusal leaves the record as it was", as would any other answer
-abbrev pub moved : Answer → Cursor → Cursor
-moved (Handle h) c = c
-moved (Truth b) c = c
-moved (SetNode x0 x1) c = c
-moved (RelationNode x00 x01 x10 x11) c = c
-moved (Declined r) c = c
-moved (Pair x y) c = c
-moved Nothing c = at_end c
-moved (Member x) c = with_last c x
+abbrev pub moved : Result Answer Refusal → Cursor → Cursor
+moved (Ok (Handle h)) c = c
+moved (Ok (Truth b)) c = c
+moved (Ok (SetNode x0 x1)) c = c
+moved (Ok (RelationNode x00 x01 x10 x11)) c = c
+moved (Ok (Pair x y)) c = c
+moved (Ok Nothing) c = at_end c
+moved (Ok (Member x)) c = with_last c x
+moved (Err r) c = c

@@ -8,3 +8,4 @@ pub mod ImageMeanings
 pub mod SetChecking
 pub mod RelationChecking
 pub mod ImageChecking
+pub mod Declining

@@ -1,29 +1,28 @@
 -- The calls on relations, after spp.rs: what each declines in document 01's order, what it runs, and what it answers.
-use Rattle.std.specs.Prelude.{[], ◌∷◌, ℕ, eqb}
+use Rattle.std.specs.Prelude.{Result, Ok, Err, [], ◌∷◌, ℕ, eqb}
 use Rattle.model.specs.Store.{rel, Store, get}
 use Rattle.model.specs.Packets.{packet, digits, walk}
 use Rattle.model.specs.Programs.{Prog, mk}
 use Rattle.model.specs.Recursion.{x00, x01, x10, x11}
 use Rattle.model.specs.Operations.{zero_at_depth, one_at_depth, top_at_depth, union, intersect, xor, difference, complement, is_zero, test, assign}
 use Rattle.model.specs.Relations.{sequence, star, flip, naive_forward, backward}
-use Rattle.call_rules.specs.Outcome.{Verdict, gives, runs, unless_declined, as_handle, of_one, of_two, of_parent, of_four_children, of_field, of_packets}
+use Rattle.call_rules.specs.Outcome.{Check, Verdict, gives, runs, unless_declined, as_handle, of_one, of_two, of_parent, of_four_children, of_field, of_packets}
 use Rattle.call_rules.specs.Outcome.{yes_no}
-use Rattle.call_rules.specs.declared.Check.{Check}
-use Rattle.call_rules.specs.declared.Check.TheVariants.{Level}
 use Rattle.call_rules.specs.declared.Answer.{Answer}
-use Rattle.call_rules.specs.declared.Answer.TheVariants.{Truth, RelationNode, Declined}
+use Rattle.call_rules.specs.declared.Answer.TheVariants.{Truth, RelationNode}
 use Rattle.store.specs.declared.relation_calls.RelationCall.{RelationCall}
 use Rattle.store.specs.declared.relation_calls.RelationCall.TheVariants.{Mk, Zero, One, Top, Union, Intersect, Xor, Difference, Complement}
 use Rattle.store.specs.declared.relation_calls.RelationCall.TheVariants.{Sequence, Star, Flip, Test, Assign, NaiveForward, Backward}
 use Rattle.store.specs.declared.relation_reads.RelationRead.{RelationRead}
 use Rattle.store.specs.declared.relation_reads.RelationRead.TheVariants.{Get, IsZero, Relates}
+use Rattle.call_rules.specs.declared.Refusal.{Refusal}
 
 -- CALLS THAT MAY ADD RELATIONS. What a call declines after 1, in a store S of k fields, or its operands' level.
 abbrev pub relation_declines : ℕ → RelationCall → Store → Check
 relation_declines k (Mk a b c d) S = of_four_children k rel S a b c d
-relation_declines k Zero S = Level k
-relation_declines k One S = Level k
-relation_declines k Top S = Level k
+relation_declines k Zero S = Ok k
+relation_declines k One S = Ok k
+relation_declines k Top S = Ok k
 relation_declines k (Union a b) S = of_two k rel S a b
 relation_declines k (Intersect a b) S = of_two k rel S a b
 relation_declines k (Xor a b) S = of_two k rel S a b
@@ -56,8 +55,8 @@ relation_program k l (Assign f b) = assign k f (eqb b 1)
 relation_program k l (NaiveForward a) = naive_forward l a
 relation_program k l (Backward a) = backward l a
 
-abbrev pub relation_verdict : RelationCall → ℕ → Store → Verdict Answer
-relation_verdict c k S = unless_declined Declined (relation_declines k c S) (λ l. runs (relation_program k l c) as_handle)
+abbrev pub relation_verdict : RelationCall → ℕ → Store → Verdict (Result Answer Refusal)
+relation_verdict c k S = unless_declined Err (relation_declines k c S) (λ l. runs (relation_program k l c) as_handle)
 
 -- CALLS THAT ADD NOTHING
 abbrev pub relation_read_declines : ℕ → RelationRead → Store → Check
@@ -70,5 +69,5 @@ relation_read_answer S l (Get a) = (let x = get rel S a in RelationNode (x00 x) 
 relation_read_answer S l (IsZero a) = yes_no (is_zero rel l a) S
 relation_read_answer S l (Relates a p q) = Truth (eqb (walk rel S a (digits (packet l p) (packet l q))) 1)
 
-abbrev pub relation_read_verdict : RelationRead → ℕ → Store → Verdict Answer
-relation_read_verdict c k S = unless_declined Declined (relation_read_declines k c S) (λ l. gives (relation_read_answer S l c))
+abbrev pub relation_read_verdict : RelationRead → ℕ → Store → Verdict (Result Answer Refusal)
+relation_read_verdict c k S = unless_declined Err (relation_read_declines k c S) (λ l. gives (Ok (relation_read_answer S l c)))

@@ -1,15 +1,17 @@
 // The calls that read sets and may add relations.
-ghost use Rattle.std.specs.Prelude.{◌≡◌, ℕ};
+ghost use Rattle.std.specs.Prelude.{Err, ℕ};
 ghost use Rattle.model.specs.Store.{set, rel};
-ghost use Rattle.memory.specs.Performing.{PerformsOn, OtherNodes};
+ghost use Rattle.memory.specs.Performing.{PerformsOn, OtherNodes, going, ended};
 ghost use Rattle.store_check.specs.Memory.{memories};
-ghost use Rattle.call_rules.specs.Outcome.{outcome};
-ghost use Rattle.call_rules.specs.Promise.{Meets, Replies};
+ghost use Rattle.call_rules.specs.Promise.{Replies};
+ghost use Rattle.store.specs.Declining.{filter_call_no_store};
 ghost use Rattle.store.specs.Calls.{filter_call, step};
 ghost use Rattle.store.specs.ImageCalls.{filter_declines, filter_program};
-ghost use Rattle.call_rules.specs.Checking.{Checks, CheckedStore};
+ghost use Rattle.call_rules.specs.Checking.{Checks};
 
-use memory::RunState;
+use call_rules::calls::{self, AddsRelations};
+use call_rules::finish::finish;
+use call_rules::{Answer, Refusal, Reply, operands};
 use store_check::head::*;
 
 // A call with its argument, a set, after spp.rs.
@@ -21,13 +23,13 @@ pub enum FilterCall {
 }
 
 // Whether a call may run on the first m sets.
-fn check(sets: &[u32], m: usize, k: u32, call: FilterCall) -> call_rules::Check
+fn check(sets: &[u32], m: usize, k: u32, call: FilterCall) -> Result<u32, Refusal>
     ensures { Checks set sets.now m k (λ S. filter_declines k call S) result }
 {
     match call {
-        FilterCall::Diagonal(p) => call_rules::operands::one(sets, 2, m, k, p),
-        FilterCall::Ifwd(p) => call_rules::operands::one(sets, 2, m, k, p),
-        FilterCall::Ibwd(p) => call_rules::operands::one(sets, 2, m, k, p),
+        FilterCall::Diagonal(p) | FilterCall::Ifwd(p) | FilterCall::Ibwd(p) => operands::one(
+            sets, 2, m, k, p,
+        ),
     }
 }
 
@@ -36,92 +38,69 @@ fn perform(
     sets: &[u32],
     relations: &mut [u32],
     work: &mut [u32],
-    s: RunState,
+    n: &mut usize,
     level: u8,
     call: FilterCall,
-) -> RunState
-    ensures { (j : ℕ) → PerformsOn (OtherNodes rel sets.now j) rel (filter_program level call) s
-        relations.old relations.new work.old work.new result }
+) -> Option<u32>
+    ensures { (j : ℕ) → PerformsOn (OtherNodes rel sets.now j) rel (filter_program level call) (going n.old)
+        relations.old relations.new work.old work.new (ended n.new result) }
 {
     match call {
         FilterCall::Diagonal(p) => relation_images::filters::diagonal(
-            sets, relations, work, s, level, p,
+            sets, relations, work, n, level, p,
         ),
-        FilterCall::Ifwd(p) => relation_images::filters::ifwd(sets, relations, work, s, level, p),
-        FilterCall::Ibwd(p) => relation_images::filters::ibwd(sets, relations, work, s, level, p),
+        FilterCall::Ifwd(p) => relation_images::filters::ifwd(sets, relations, work, n, level, p),
+        FilterCall::Ibwd(p) => relation_images::filters::ibwd(sets, relations, work, n, level, p),
     }
 }
 
-// Checks a call on a store, and runs it.
-fn run_checked(
-    relations: &mut [u32],
-    sets: &[u32],
-    work: &mut [u32],
-    call: FilterCall,
-) -> call_rules::Answer
-    requires { CheckedStore rel (memories relations.old sets.now) work.old }
-    ensures { outcome result (memories relations.new sets.now)
-        ≡ step (filter_call call) (memories relations.old sets.now) }
-{
-    let k = relations[FIELDS];
-    let n = memory::as_index(relations[RELATION_COUNT]);
-    let m = memory::as_index(sets[SET_COUNT]);
-    let check = check(&sets[SET_HEAD..], m, k, call);
-    match check {
-        call_rules::Check::No(r) => call_rules::Answer::Declined(r),
-        call_rules::Check::Level(l) => {
-            let s = RunState {
-                ok: true,
-                n: n,
-                h: 0,
-            };
-            let r = perform(
-                &sets[SET_HEAD..],
-                &mut relations[RELATION_HEAD..],
-                work,
-                s,
-                memory::as_level(l),
-                call,
-            );
-            call_rules::finish::finish(relations, RELATION_COUNT, RELATION_HEAD, 4, n, r)
-        }
+impl AddsRelations for FilterCall {
+    type Output = Result<Answer, Refusal>;
+
+    ghost refuse = { Err };
+
+    ghost step = { λ c M. step (filter_call c) M };
+
+    // A call that is declined.
+    fn refused(refusal: Refusal) -> Result<Answer, Refusal> {
+        Err(refusal)
     }
+
+    // Checks a call on a store, and runs it (lib.rt says why each type of calls has its own).
+    fn run_checked(
+        self,
+        relations: &mut [u32],
+        sets: &[u32],
+        work: &mut [u32],
+    ) -> Result<Answer, Refusal> {
+        let k = relations[FIELDS];
+        let n = relations[RELATION_COUNT] as usize;
+        let m = sets[SET_COUNT] as usize;
+        let level = check(&sets[SET_HEAD..], m, k, self)?;
+        let mut end = n;
+        let made = perform(
+            &sets[SET_HEAD..],
+            &mut relations[RELATION_HEAD..],
+            work,
+            &mut end,
+            level as u8,
+            self,
+        );
+        finish(relations, RELATION_COUNT, RELATION_HEAD, 4, n, end, made)
+    }
+
+    ghost declines = { filter_call_no_store };
 }
 
-// A call on any numbers in both memories.
-fn run(
-    relations: &mut [u32],
-    sets: &[u32],
-    work: &mut [u32],
-    call: FilterCall,
-) -> call_rules::Answer
-    ensures { Meets (step (filter_call call) (memories relations.old sets.now))
-        (memories relations.new sets.now) work.old work.new result }
-{
-    if !store_check::is_store(relations, sets, work, false) {
-        memory::clear(work);
-        return call_rules::Answer::Declined(call_rules::Refusal::NotStore);
-    }
-    let r = run_checked(relations, sets, work, call);
-    memory::clear(work);
-    r
-}
-
-// The same, with the nodes that it added.
+// A call on any numbers in both memories, with the nodes that it added.
 pub fn filter_call(
     relations: &mut [u32],
     sets: &[u32],
     work: &mut [u32],
     call: FilterCall,
-) -> call_rules::Reply
+) -> Reply<Result<Answer, Refusal>>
     ensures { Replies (step (filter_call call)) (memories relations.old sets.now)
         (memories relations.new sets.now) work.old work.new result.answer result.added }
 {
-    let before = call_rules::added::held(relations, sets);
-    let answer = run(relations, sets, work, call);
-    let after = call_rules::added::held(relations, sets);
-    call_rules::Reply {
-        answer: answer,
-        added: call_rules::added::since(before, after),
-    }
+    calls::add_relations(relations, sets, work, call)
 }

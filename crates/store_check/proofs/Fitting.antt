@@ -8,8 +8,7 @@ use native.Mathlib.Nat.{add-zero}
 use native.Mathlib.Omega.{arith}
 use lib.ListN.{length, get_or, take, drop, take-append-drop}
 use lib.Seq.{take-take, drop-drop, paste}
-use lib.Dec.{eqb, T, lt→ltb}
-use borrow.Author.Tests.{eqb-true, eqb-false}
+use lib.Dec.{T, lt→ltb}
 use Rattle.model.specs.Programs.{mk, run}
 use Rattle.model.specs.Safety.{Safe}
 use Rattle.model.specs.Store.{Kind, set, rel, arity, Store, nodes, index, handle_of, with_sign, sign, stored}
@@ -18,7 +17,7 @@ use Rattle.model.proofs.Extends.{append_nil, ext_refl, ext_trans, ext_held}
 use Rattle.model.proofs.Levels.{arity_pos, small, held_once, held_at}
 use Rattle.model.proofs.Mk.{mk_formed}
 use Rattle.model.proofs.Signs.{with_sign_zero}
-use Rattle.memory.specs.Performing.{run_state, Done}
+use Rattle.memory.specs.Performing.{run_state, going, Done}
 use Rattle.memory.specs.Finding.{Search, Finds, Entered}
 use Rattle.memory.specs.Noting.{Written, Noted, Gathers, LevelIs}
 use Rattle.memory.specs.Rows.{row, places, plain}
@@ -26,6 +25,7 @@ use Rattle.memory.specs.Working.{properties_in, Words, Indexed, Right}
 use Rattle.memory.proofs.Joining.{join_new}
 use Rattle.memory.proofs.Rows.{row_at, row_part, row_length, place_fits, rows_snoc, plain_length, plain_at}
 use Rattle.memory.proofs.Steps.{false≢true}
+use Rattle.std.specs.Prelude.{Option, Some, None, not, is_some}
 use Rattle.store_check.specs.StoreChecking.{ChildFits, NodeFits, Tests, Earlier, LevelAbove, Above, FitsNext, Start, NodesChecked}
 
 -- TESTS
@@ -64,20 +64,16 @@ module _ (K : Kind) (B : Store) (m : List ℕ) (c k i d r : ℕ) (e : c ≡ arit
 pub first_is : (m : List ℕ) (c k i r : ℕ) → LevelIs m c k (get_or m (c * i) 0) r → LevelIs m c k (get_or m (c * i + 0) 0) r
 first_is m c k i r L = subst (λ j. LevelIs m c k (get_or m j 0) r) (sym (add-zero (c * i))) L
 
--- the children share no level below k
-pub level_none : (K : Kind) (B : Store) (m : List ℕ) (k i : ℕ)
-    → ((l : ℕ) → l < k → ((d : ℕ) → d < arity K → Held K (plain K B m i) l (get_or m (arity K * i + d) 0)) → ⊥) → LevelAbove k K (plain K B m i) m i 0
-level_none K B m k i o = record { so = λ l q. absurd (omega arith); found = λ l b f. absurd (o l b f) }
-
 -- the level in the node's word, where it says something
 pub level_known : (K : Kind) (B : Store) (m : List ℕ) (k i v r : ℕ) → 0 < v → r ≡ (properties_in v).level → WellFormed k (plain K B m i) → Earlier K m i
-    → Above K (plain K B m i) m i v → LevelAbove k K (plain K B m i) m i r
+    → Above K (plain K B m i) m i v → LevelAbove k K (plain K B m i) m i (Some r)
 level_known K B m k i v r p e F E A = record {
   so = λ l q b d h.
       let a = child_level K B m i (get_or m (arity K * i + d) 0) F (E d h) in
+      let y : r ≡ l + 1 = cc in
       let z : a.0 ≡ l = omega (arith, A p d a.0 h a.2) in
       subst (λ l. Held K (plain K B m i) l (get_or m (arity K * i + d) 0)) z a.2;
-  found = λ l b f. e ∙ A p 0 l (arity_pos K) (f 0 (arity_pos K));
+  found = λ l b f. ap Some (e ∙ A p 0 l (arity_pos K) (f 0 (arity_pos K)));
 }
 
 -- A NODE that fits
@@ -85,36 +81,45 @@ pub row_first : (K : Kind) (m : List ℕ) (c i : ℕ) → c ≡ arity K → get_
 row_first K m c i e = row_at (arity K) m i 0 (arity_pos K) ∙ ap (λ c. get_or m (c * i + 0) 0) (sym e) ∙ ap (λ j. get_or m j 0) (add-zero (c * i))
 
 -- the level above the children's of a node that fits
-pub node_above : {K : Kind} {B : Store} {m : List ℕ} {k i r : ℕ} → LevelAbove k K (plain K B m i) m i r → (N : NodeFits k K B m i) → r ≡ N.level + 1
+pub node_above : {K : Kind} {B : Store} {m : List ℕ} {k i : ℕ} {r : Option ℕ} → LevelAbove k K (plain K B m i) m i r → (N : NodeFits k K B m i)
+    → r ≡ Some (N.level + 1)
 node_above A N = A.found N.level N.under (λ d h. (N.below d h).held)
 
-pub node_below : {K : Kind} {B : Store} {m : List ℕ} {k i : ℕ} (r l : ℕ) → r ≡ l + 1 → l < k → LevelAbove k K (plain K B m i) m i r → Earlier K m i
-    → (d : ℕ) → d < arity K → ChildFits K B m i l d
+pub node_below : {K : Kind} {B : Store} {m : List ℕ} {k i : ℕ} (r : Option ℕ) (l : ℕ) → r ≡ Some (l + 1) → l < k
+    → LevelAbove k K (plain K B m i) m i r → Earlier K m i → (d : ℕ) → d < arity K → ChildFits K B m i l d
 node_below r l q u A E d h = record { earlier = E d h; held = A.so l q u d h }
 
--- the search of row i, as a part of the slice, among those before it
+-- row i, as a part of the slice
+pub part_length : (c : ℕ) (m : List ℕ) (i : ℕ) → c * i + c ≤ length m → length (take (c * i + c - c * i) (drop (c * i) m)) ≡ c
+part_length c m i f = ap length (row_part c m i) ∙ row_length c m i f
+
+pub part_at : (c : ℕ) (m : List ℕ) (i d : ℕ) → d < c → get_or (take (c * i + c - c * i) (drop (c * i) m)) d 0 ≡ get_or m (c * i + d) 0
+part_at c m i d h = ap (λ x. get_or x d 0) (row_part c m i) ∙ row_at c m i d h
+
+-- the search of it among those before it
 pub part_fits : (c : ℕ) (m : List ℕ) (i : ℕ) → c * i + c ≤ length m → length (take (c * i + c - c * i) (drop (c * i) m)) * i ≤ length m
-part_fits c m i f =
-    let z : length (take (c * i + c - c * i) (drop (c * i) m)) ≡ c = ap length (row_part c m i) ∙ row_length c m i f in
-    subst (λ z. z * i ≤ length m) (sym z) (omega arith)
+part_fits c m i f = subst (λ z. z * i ≤ length m) (sym (part_length c m i f)) (omega arith)
 
-pub row_found : (K : Kind) (m w : List ℕ) (c i j : ℕ) → c ≡ arity K → c * i + c ≤ length m → Indexed (row (arity K) m) w i
-    → Search (take (c * i + c - c * i) (drop (c * i) m)) m w i j
-    → Finds (row (arity K) m) i (row (arity K) m i) true j
-row_found K m w c i j e f I s =
+pub row_found : (K : Kind) (m w : List ℕ) (c i : ℕ) (r : Option ℕ) → c ≡ arity K → c * i + c ≤ length m → Indexed (row (arity K) m) w i
+    → Search (take (c * i + c - c * i) (drop (c * i) m)) m w i r
+    → Finds (row (arity K) m) i (row (arity K) m i) true r
+row_found K m w c i r e f I s =
     let z : length (row c m i) ≡ c = row_length c m i f in
-    let t = subst (λ x. Search x m w i j) (row_part c m i) s true (λ _. subst (λ c. Indexed (row c m) w i) (sym (z ∙ e)) I) in
-    subst (λ c. Finds (row c m) i (row c m i) true j) e (subst (λ z. Finds (row z m) i (row c m i) true j) z t)
+    let t = subst (λ x. Search x m w i r) (row_part c m i) s true (λ _. subst (λ c. Indexed (row c m) w i) (sym (z ∙ e)) I) in
+    subst (λ c. Finds (row c m) i (row c m i) true r) e (subst (λ z. Finds (row z m) i (row c m i) true r) z t)
 
-pub node_last : {K : Kind} {B : Store} {m : List ℕ} {k i l j : ℕ} → l < k → ((d : ℕ) → d < arity K → ChildFits K B m i l d) → Even K (row (arity K) m i)
-    → Finds (row (arity K) m) i (row (arity K) m i) true j → Tests (eqb j i) (NodeFits k K B m i)
-node_last {K} {B} {m} {k} {i} {l} {j} u b v F = record {
-  so = λ q. record { level = l; under = u; below = b; even = v; new = F.none refl (eqb-true j i q) };
-  not = λ q N. let ne : ¬ (j ≡ i) = eqb-false j i q in let a : j < i = order F.low ne in N.new j a (F.hit a);
+pub node_last : {K : Kind} {B : Store} {m : List ℕ} {k i l : ℕ} {r : Option ℕ} → l < k → ((d : ℕ) → d < arity K → ChildFits K B m i l d)
+    → Even K (row (arity K) m i) → Finds (row (arity K) m) i (row (arity K) m i) true r → {t : Bool} → is_some r ≡ not t → Tests t (NodeFits k K B m i)
+node_last {K} {B} {m} {k} {i} {l} {r = None} u b v F {t = true} e = record {
+  so = λ q. record { level = l; under = u; below = b; even = v; new = F.none refl refl };
+  not = λ q. absurd (false≢true (sym q));
 }
-  where
-    order : {j i : ℕ} → j ≤ i → ¬ (j ≡ i) → j < i
-    order a o = omega arith
+node_last {r = None} u b v F {t = false} e = absurd (false≢true e)
+node_last {r = Some j} u b v F {t = true} e = absurd (false≢true (sym e))
+node_last {r = Some j} u b v F {t = false} e = record {
+  so = λ q. absurd (false≢true q);
+  not = λ q N. let h = F.hit j refl in N.new j h.0 h.1;
+}
 
 -- THE STORE with one node more
 next_extends : (K : Kind) (B : Store) (m : List ℕ) (n : ℕ) → Extends (plain K B m n) (plain K B m (n + 1))
@@ -180,9 +185,9 @@ module _ {K : Kind} {B : Store} {m w w₁ w₂ : List ℕ} {k i : ℕ} (l : i < 
   held : (d : ℕ) → d < arity K → Held K (plain K B m i) N.level (get_or (row (arity K) m i) d 0)
   held d b = subst (Held K (plain K B m i) N.level) (sym (row_at (arity K) m i d b)) (N.below d b).held
 
-  joined : Done K (mk K (row (arity K) m i)) B (run_state true i 0) m m w₂ (run_state true (i + 1) (handle_of K (sign (row (arity K) m i)) i))
+  joined : Done K (mk K (row (arity K) m i)) B (going i) m m w₂ (run_state true (i + 1) (handle_of K (sign (row (arity K) m i)) i))
   unfolding Safe
-  joined = (join_new {s = run_state true i 0} (row (arity K) m i) (row (arity K) m i) refl
+  joined = (join_new (row (arity K) m i) (row (arity K) m i)
       (record { room = omega arith; live = λ _. record { safe = record { level = N.level; sized = sized; held = held }; work = G.right } })
       (sym (stored_same K (row (arity K) m i) N.even)) N.new m w₁ w₂ sized l (paste_same m (arity K * i) (arity K)) A E _ refl).done refl
 

@@ -4,5 +4,4 @@ pub mod Fitting
 pub mod Rooms
 pub mod Both
 pub mod Whole
-pub mod Clearing
 pub mod Reindexing

@@ -5,7 +5,7 @@ use Prim.Native.Nat.{ℕ, ◌+◌}
 use lib.ListN.{take, drop}
 use Rattle.model.specs.Store.{Kind, set, rel, Store}
 use Rattle.memory.specs.Performing.{other}
-use Rattle.memory.specs.Finding.{IndexApart, Emptied, Entered}
+use Rattle.memory.specs.Finding.{IndexApart, Emptied}
 use Rattle.memory.specs.Rows.{row, plain}
 use Rattle.memory.specs.Working.{memo_size, Indexed, index_size}
 use Rattle.memory.proofs.Starting.{right_indexed}
@@ -23,15 +23,6 @@ apart_then {w = w} {w' = w'} A E = record {
 pub record Entering (node : ℕ → List ℕ) (w₀ w : List ℕ) (i : ℕ) : Type 0 where
   pub index : Indexed node w i
   pub apart : IndexApart w₀ w
-
-pub entering_starts : (node : ℕ → List ℕ) {w w₀ : List ℕ} → Emptied w w₀ → Entering node w₀ w₀ 0
-entering_starts node E = record { index = E.index node; apart = record { memo = refl; words = refl; work_length = refl } }
-
-pub entering_next : {node : ℕ → List ℕ} {w₀ w w' : List ℕ} {i : ℕ} → Entering node w₀ w i → Entered node i w w' → Entering node w₀ w' (i + 1)
-entering_next A E = record {
-  index = E.index A.index;
-  apart = apart_then A.apart E.apart;
-}
 
 turned : (K : Kind) (B : Store) (m o : List ℕ) (n j : ℕ) → plain K (plain (other K) B o j) m n ≡ plain (other K) (plain K B m n) o j
 turned set B m o n j = refl

@@ -1,12 +1,13 @@
 -- Zeros in a part of a memory, and `has_room` from them: what the functions of `room` say.
-use mathlib.Core.Path.{◌≡◌, refl, sym, ap, ◌∙◌}
+use mathlib.Core.Path.{◌≡◌, refl, sym, ap, ◌∙◌, subst}
 use mathlib.Core.Logic.{◌↔◌}
-use mathlib.Core.List.{List}
+use mathlib.Core.List.{List, [], ◌∷◌, ◌++◌}
 use mathlib.Core.Bool.{Bool, true, false, ◌&&◌}
-use Prim.Native.Nat.{ℕ, ◌+◌, ◌-◌, ◌*◌, ◌/◌, ◌<◌, ◌≤◌}
-use native.Mathlib.Nat.{mul-le-mul_left, mul-div-le}
+use Prim.Native.Nat.{ℕ, ◌+◌, ◌-◌, ◌*◌, ◌<◌, ◌≤◌}
+use native.Mathlib.Nat.{add-zero}
 use native.Mathlib.Omega.{arith}
-use lib.ListN.{length, get_or, length-drop}
+use lib.ListN.{length, get_or, take, drop, length-append, length-drop, get_or-append}
+use lib.Seq.{length-take-le, get_or-append-add, get_or-take, get_or-drop}
 use lib.Bits.{bit_or, or_add_and, and_le_l, and_le_r}
 use lib.Dec.{eqb, leb}
 use borrow.Author.Count.{below_more}
@@ -23,34 +24,43 @@ use Rattle.store_check.proofs.Decide.{room_says}
 zeros_say : (m : List ℕ) (s n : ℕ) → Decided (all_below n (λ j. eqb (get_or m (s + j) 0) 0)) ((j : ℕ) → j < n → get_or m (s + j) 0 ≡ 0)
 zeros_say m s n = decided_all n (λ j. eqb (get_or m (s + j) 0) 0) (λ j. get_or m (s + j) 0 ≡ 0) (λ j. decided_eq (get_or m (s + j) 0) 0)
 
--- the bits that some number from s to before i has: none exactly where each number is 0
-abbrev pub BitsOf : List ℕ → ℕ → ℕ → ℕ → Type 0
-BitsOf m s i bits = (bits ≡ 0) ↔ ((j : ℕ) → j < i → s ≤ j → get_or m j 0 ≡ 0)
+-- the bits that some number of a list has: none exactly where each number is 0
+abbrev pub BitsOf : List ℕ → ℕ → Type 0
+BitsOf l bits = (bits ≡ 0) ↔ ((j : ℕ) → j < length l → get_or l j 0 ≡ 0)
 
-pub bits_none : (m : List ℕ) (s : ℕ) → BitsOf m s s 0
-bits_none m s = (λ e j h l. absurd (omega arith), λ z. refl)
+pub bits_none : BitsOf [] 0
+bits_none = (λ e j h. absurd (omega arith), λ z. refl)
 
-pub bits_more : (m : List ℕ) (s i bits : ℕ) → s ≤ i → BitsOf m s i bits → BitsOf m s (i + 1) (bit_or bits (get_or m i 0))
-bits_more m s i bits h B =
-    let x = get_or m i 0 in
+bits_of_more : (l : List ℕ) (bits x : ℕ) → BitsOf l bits → BitsOf (l ++ (x ∷ [])) (bit_or bits x)
+bits_of_more l bits x B =
     let a = or_add_and bits x in
     let b = and_le_l bits x in
-    let c = and_le_r bits x in (
-      λ e. below_more (λ j. s ≤ j → get_or m j 0 ≡ 0) i (B.0 (omega arith)) (λ l. omega arith),
-      λ z. let u = z i (omega arith) h in let v = B.1 (λ j l. z j (omega arith)) in omega arith,
+    let c = and_le_r bits x in
+    let n : length (l ++ (x ∷ [])) ≡ length l + 1 = length-append l (x ∷ []) in
+    let last : get_or (l ++ (x ∷ [])) (length l) 0 ≡ x
+    = ap (λ k. get_or (l ++ (x ∷ [])) k 0) (sym (add-zero (length l))) ∙ get_or-append-add l (x ∷ []) 0 0 in (
+      λ e j h. below_more (λ j. get_or (l ++ (x ∷ [])) j 0 ≡ 0) (length l) (λ j h. get_or-append l (x ∷ []) 0 j h ∙ B.0 (omega arith) j h)
+          (omega arith) j (omega arith),
+      λ z.
+          let u = z (length l) (omega arith) in
+          let v = B.1 (λ j h. sym (get_or-append l (x ∷ []) 0 j h) ∙ z j (omega arith)) in omega arith,
     )
 
-pub zeros_by_bits : (m : List ℕ) (s e bits : ℕ) → BitsOf m s e bits → eqb bits 0 ≡ all_below (e - s) (λ j. eqb (get_or m (s + j) 0) 0)
-zeros_by_bits m s e bits B =
-    let Z = zeros_say m s (e - s) in
-    by_test (λ b. b ≡ all_below (e - s) (λ j. eqb (get_or m (s + j) 0) 0)) (eqb bits 0)
-    (λ y. sym (decided_true Z (λ j l. B.0 (eqb-true bits 0 y) (s + j) (omega arith) (omega arith))))
-    (λ n. sym (decided_false Z (λ z. eqb-false bits 0 n (B.1 (λ j l h.
-    let q : s + (j - s) ≡ j = omega arith in ap (λ i. get_or m i 0) (sym q) ∙ z (j - s) (omega arith))))))
+-- a turn of the closure, which changes nothing that it captured
+pub bits_more : {F : Type 0} (l : List ℕ) (bits x bits' : ℕ) (f f' : F) → BitsOf l bits → (bits' ≡ bit_or bits x) × (f' ≡ f)
+    → BitsOf (l ++ (x ∷ [])) bits' × (f' ≡ f)
+bits_more l bits x bits' f f' B k = (subst (BitsOf (l ++ (x ∷ []))) (sym k.0) (bits_of_more l bits x B), k.1)
 
--- n of the p nodes that fit into l numbers
-pub part_ends : (l c p n : ℕ) → p ≡ places_of l c → n ≤ p → (c * n ≤ c * p) × (c * p ≤ l)
-part_ends l c p n e h = let q : p ≤ l / c = omega arith in (mul-le-mul_left c h, omega (arith, mul-le-mul_left c q, mul-div-le l c))
+pub zeros_by_bits : (m : List ℕ) (s e bits : ℕ) → s ≤ e → e ≤ length m → BitsOf (take (e - s) (drop s m)) bits
+    → eqb bits 0 ≡ all_below (e - s) (λ j. eqb (get_or m (s + j) 0) 0)
+zeros_by_bits m s e bits h g B =
+    let Z = zeros_say m s (e - s) in
+    let n : length (take (e - s) (drop s m)) ≡ e - s = length-take-le (e - s) (drop s m) (omega (arith, length-drop s m)) in
+    let at : (j : ℕ) → j < e - s → get_or (take (e - s) (drop s m)) j 0 ≡ get_or m (s + j) 0
+    = λ j l. get_or-take (e - s) (drop s m) j 0 l ∙ get_or-drop s m j 0 in
+    by_test (λ b. b ≡ all_below (e - s) (λ j. eqb (get_or m (s + j) 0) 0)) (eqb bits 0)
+    (λ y. sym (decided_true Z (λ j l. sym (at j l) ∙ B.0 (eqb-true bits 0 y) j (omega arith))))
+    (λ y. sym (decided_false Z (λ z. eqb-false bits 0 y (B.1 (λ j l. let l' : j < e - s = omega arith in at j l' ∙ z j l')))))
 
 -- a memory whose count is at `at`, and whose nodes of c numbers begin at start
 module _ (K : Kind) (m : List ℕ) (at start c : ℕ) (e : at ≡ count_at K) (a : start ≡ head K) (b : c ≡ arity K) where

@@ -1,7 +1,7 @@
 -- What is done to the memory of one kind once a program has run on its nodes.
 use Rattle.std.specs.Prelude.{◌≡◌, true, false, List, ℕ, ◌+◌, ◌-◌, ◌*◌, set as put, replicate}
 use borrow.Rule.Slice.PartMut.{put_mid}
-use Rattle.memory.specs.declared.RunState.{RunState}
+use Rattle.memory.specs.Performing.{RunState}
 
 -- the numbers from s up to e made zero
 abbrev pub cleared : ℕ → ℕ → List ℕ → List ℕ

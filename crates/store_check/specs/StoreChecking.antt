@@ -1,5 +1,5 @@
 -- What the functions that check nodes say: c is the child count of a kind, m the nodes, w the working memory, k the number of fields.
-use Rattle.std.specs.Prelude.{◌≡◌, List, Bool, true, false, ℕ, ◌+◌, ◌*◌, ◌<◌, ◌≤◌, length, get_or, replicate}
+use Rattle.std.specs.Prelude.{◌≡◌, List, Bool, true, false, ℕ, ◌+◌, ◌*◌, ◌<◌, ◌≤◌, length, get_or, replicate, Option, Some}
 use Rattle.model.specs.Images.{blank}
 use Rattle.model.specs.Store.{Kind, set, rel, arity, Store, handle_of}
 use Rattle.model.specs.WellFormed.{Held, Even, WellFormed}
@@ -32,11 +32,11 @@ abbrev pub Earlier : Kind → List ℕ → ℕ → Type 0
 Earlier K m i = (d : ℕ) → d < arity K → get_or m (arity K * i + d) 0 < handle_of K 0 i
 
 -- r is one above the level below k that the children of the node at place i share; one above none where they share none
-pub record LevelAbove (k : ℕ) (K : Kind) (S : Store) (m : List ℕ) (i r : ℕ) : Type 0 where
-  pub so : (l : ℕ) → r ≡ l + 1 → l < k → (d : ℕ) → d < arity K → Held K S l (get_or m (arity K * i + d) 0)
-  pub found : (l : ℕ) → l < k → ((d : ℕ) → d < arity K → Held K S l (get_or m (arity K * i + d) 0)) → r ≡ l + 1
+pub record LevelAbove (k : ℕ) (K : Kind) (S : Store) (m : List ℕ) (i : ℕ) (r : Option ℕ) : Type 0 where
+  pub so : (l : ℕ) → r ≡ Some (l + 1) → l < k → (d : ℕ) → d < arity K → Held K S l (get_or m (arity K * i + d) 0)
+  pub found : (l : ℕ) → l < k → ((d : ℕ) → d < arity K → Held K S l (get_or m (arity K * i + d) 0)) → r ≡ Some (l + 1)
 
-abbrev pub LevelWalked : List ℕ → ℕ → ℕ → ℕ → ℕ → Type 0
+abbrev pub LevelWalked : List ℕ → ℕ → ℕ → ℕ → Option ℕ → Type 0
 LevelWalked m c k i r = (K : Kind) (B : Store) → c ≡ arity K → i ≤ places c m → WellFormed k (plain K B m i) → Earlier K m i
     → LevelAbove k K (plain K B m i) m i r
 
@@ -44,7 +44,7 @@ LevelWalked m c k i r = (K : Kind) (B : Store) → c ≡ arity K → i ≤ place
 abbrev pub Above : Kind → Store → List ℕ → ℕ → ℕ → Type 0
 Above K S m i v = 0 < v → (d l : ℕ) → d < arity K → Held K S l (get_or m (arity K * i + d) 0) → (properties_in v).level ≡ l + 1
 
-abbrev pub NodeLevel : List ℕ → ℕ → ℕ → ℕ → ℕ → ℕ → Type 0
+abbrev pub NodeLevel : List ℕ → ℕ → ℕ → ℕ → ℕ → Option ℕ → Type 0
 NodeLevel m c k i v r = (K : Kind) (B : Store) → c ≡ arity K → i ≤ places c m → WellFormed k (plain K B m i) → Earlier K m i → Above K (plain K B m i) m i v
     → LevelAbove k K (plain K B m i) m i r
 

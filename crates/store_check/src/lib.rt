@@ -9,6 +9,9 @@ ghost use Rattle.store_check.specs.Memory.{memories};
 ghost use Rattle.store_check.specs.StoreChecking.{Tests, Earlier, LevelWalked, NodeLevel, FitsNext, NodesChecked, BothChecked, StoreChecked};
 
 use crate::head::*;
+use crate::room::heads_fit;
+use memory::property_words::{gather, level, properties_in, write};
+use memory::{clear, index};
 
 pub mod commit;
 pub mod head;
@@ -30,44 +33,34 @@ fn children_earlier(nodes: &[u32], c: usize, i: usize) -> bool
 {
     let s = c * i;
     let most = handle_at(c, i);
-    let mut d = 0;
-    while d < c {
-        if memory::as_index(nodes[s + d]) >= most {
-            return false;
-        }
-        d += 1;
-    }
-    true
+    nodes[s..s + c].iter().all(|x| (*x as usize) < most)
 }
 
-// The level of node i, one above its children's, by walking down from each; 0 where they share none below k.
-fn level_walked(nodes: &[u32], c: usize, k: u32, i: usize) -> u32
+// The level of node i, one above its children's, by walking down from each, where they share one below k.
+fn level_walked(nodes: &[u32], c: usize, k: u32, i: usize) -> Option<u32>
     requires { (0 < c) × (c * i + c ≤ length nodes.now) × (i < most_places) }
     ensures { LevelWalked nodes.now c k i result }
 {
     let s = c * i;
-    let l = memory::property_words::level(nodes, c, k, nodes[s]);
+    let l = level(nodes, c, k, nodes[s]);
     if l >= k {
-        return 0;
+        return None;
     }
-    let mut d = 0;
-    while d < c {
-        if memory::property_words::level(nodes, c, k, nodes[s + d]) != l {
-            return 0;
+    for x in &nodes[s..s + c] {
+        if level(nodes, c, k, *x) != l {
+            return None;
         }
-        d += 1;
     }
-    l + 1
+    Some(l + 1)
 }
 
-// The same, read in the node's word where that says something.
-fn node_level(nodes: &[u32], c: usize, k: u32, i: usize, word: u32) -> u32
+// The same, read in the node's word where that says something: 0, a number of lent memory, says nothing.
+fn node_level(nodes: &[u32], c: usize, k: u32, i: usize, word: u32) -> Option<u32>
     requires { (0 < c) × (c * i + c ≤ length nodes.now) × (i < most_places) }
     ensures { NodeLevel nodes.now c k i word result }
 {
     if word != 0 {
-        let p = memory::property_words::properties_in(word);
-        return p.level;
+        return Some(properties_in(word).level);
     }
     level_walked(nodes, c, k, i)
 }
@@ -76,10 +69,7 @@ fn node_level(nodes: &[u32], c: usize, k: u32, i: usize, word: u32) -> u32
 fn first_even(c: usize, x0: u32) -> bool
     ensures { (K : Kind) (x : List ℕ) → c ≡ arity K → get_or x 0 0 ≡ x0 → Tests result (Even K x) }
 {
-    if c == 2 {
-        return x0 % 2 == 0;
-    }
-    true
+    c != 2 || x0 % 2 == 0
 }
 
 // Whether node i, of this property word, may follow those before it.
@@ -88,22 +78,20 @@ fn node_fits(nodes: &[u32], work: &[u32], c: usize, k: u32, i: usize, word: u32)
     ensures { FitsNext nodes.now work.now c k i word result }
 {
     let s = c * i;
-    let e = s + c;
     if !children_earlier(nodes, c, i) {
         return false;
     }
-    let l = node_level(nodes, c, k, i, word);
-    if l == 0 {
+    let Some(l) = node_level(nodes, c, k, i, word) else {
         return false;
-    }
-    if l > k {
+    };
+    let above = l > k;
+    if l == 0 || above {
         return false;
     }
     if !first_even(c, nodes[s]) {
         return false;
     }
-    let j = memory::index::find(nodes, work, i, &nodes[s..e]);
-    j == i
+    index::find(nodes, work, i, &nodes[s..s + c]).is_none()
 }
 
 // Whether all n nodes keep the rules.
@@ -111,17 +99,14 @@ fn nodes_fit(nodes: &[u32], work: &mut [u32], c: usize, k: u32, n: usize) -> boo
     requires { (0 < c) × (c * n ≤ length nodes.now) × (n ≤ most_places) }
     ensures { NodesChecked c n k nodes.now work.old work.new result }
 {
-    let mut i = 0;
-    while i < n {
+    for i in 0..n {
         let s = c * i;
-        let e = s + c;
-        let word = memory::property_words::gather(work, &nodes[s..e]);
+        let word = gather(work, &nodes[s..s + c]);
         if !node_fits(nodes, work, c, k, i, word) {
             return false;
         }
-        memory::property_words::write(work, c, i, word);
-        memory::index::enter(nodes, work, c, i);
-        i += 1;
+        write(work, c, i, word);
+        index::enter(nodes, work, c, i);
     }
     true
 }
@@ -143,20 +128,20 @@ fn both_fit(
     if !nodes_fit(first, work, c1, k, n1) {
         return false;
     }
-    memory::index::empty(work);
+    index::empty(work);
     nodes_fit(second, work, c2, k, n2)
 }
 
-// Whether both memories are a store; the index is then of the sets' nodes where `last` is true, else of the relations'.
+// Whether both memories are a store; the index is then of the sets' nodes where `last` is true, else of the relations' (a flag, since its clause may not change).
 pub fn is_store(relations: &[u32], sets: &[u32], work: &mut [u32], last: bool) -> bool
     ensures { StoreChecked (memories relations.now sets.now) last work.old work.new result }
 {
-    memory::clear(work);
-    if !crate::room::heads_fit(relations, sets) {
+    clear(work);
+    if !heads_fit(relations, sets) {
         return false;
     }
-    let n = memory::as_index(relations[RELATION_COUNT]);
-    let m = memory::as_index(sets[SET_COUNT]);
+    let n = relations[RELATION_COUNT] as usize;
+    let m = sets[SET_COUNT] as usize;
     if last {
         both_fit(
             &relations[RELATION_HEAD..],

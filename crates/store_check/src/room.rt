@@ -7,19 +7,14 @@ ghost use Rattle.store_check.specs.StoreChecking.{Tests, HeadsFit};
 ghost use Rattle.store_check.specs.Valid.{has_room};
 
 use crate::head::*;
+use memory::places_of;
 
 // Whether the numbers from s to before e are zero: all are looked at, so that the compiler takes several at a time.
 fn zeros(m: &[u32], s: usize, e: usize) -> bool
     requires { (s ≤ e) × (e ≤ length m.now) }
     ensures { result ≡ all_below (e - s) (λ j. eqb (get_or m.now (s + j) 0) 0) }
 {
-    let mut bits: u32 = 0;
-    let mut i = s;
-    while i < e {
-        bits = bits | m[i];
-        i += 1;
-    }
-    bits == 0
+    m[s..e].iter().fold(0, |bits, x| bits | x) == 0
 }
 
 // Whether a memory whose nodes of c numbers begin at `start` has room for as many as its count says, which is at `at`.
@@ -30,23 +25,16 @@ fn has_room(m: &[u32], at: usize, start: usize, c: usize) -> bool
     if m.len() < start {
         return false;
     }
-    let p = memory::places_of(m.len() - start, c);
-    let n = memory::as_index(m[at]);
-    if n > p {
-        return false;
-    }
-    zeros(m, start + c * n, start + c * p)
+    let p = places_of(m.len() - start, c);
+    let n = m[at] as usize;
+    n <= p && zeros(m, start + c * n, start + c * p)
 }
 
 // Whether both memories have room for what they say, and at most 32 fields.
 pub(crate) fn heads_fit(relations: &[u32], sets: &[u32]) -> bool
     ensures { Tests result (HeadsFit (memories relations.now sets.now)) }
 {
-    if !has_room(relations, RELATION_COUNT, RELATION_HEAD, 4) {
-        return false;
-    }
-    if !has_room(sets, SET_COUNT, SET_HEAD, 2) {
-        return false;
-    }
-    relations[FIELDS] <= 32
+    has_room(relations, RELATION_COUNT, RELATION_HEAD, 4)
+        && has_room(sets, SET_COUNT, SET_HEAD, 2)
+        && relations[FIELDS] <= 32
 }

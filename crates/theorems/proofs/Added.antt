@@ -13,6 +13,7 @@ use Rattle.call_rules.specs.Added.{node_counts, of_kind, held_in, less, added_by
 use Rattle.call_rules.specs.Answers.{refusal}
 use Rattle.call_rules.specs.Outcome.{outcome}
 use Rattle.call_rules.specs.declared.Answer.TheVariants.{Handle}
+use Rattle.std.specs.Prelude.{Ok}
 use Rattle.call_rules.specs.declared.added.NodeCounts.{NodeCounts}
 use Rattle.call_rules.proofs.Counting.{less_same, never_zero}
 use Rattle.store.specs.Calls.{new_store, set_call, set_read, relation_call, relation_read, image_call, filter_call, path_read, step}
@@ -69,7 +70,7 @@ module _ (M : Memories) where
   added_right c = record { grows = grows c; refused = λ r. refused_none c (effect c) (ne_eqb _ _ r) }
 
 -- `NEW`
-pub new_added : (k : ℕ) (M : Memories) (h : ℕ) → (step (new_store k) M).answer ≡ Handle h → NewAdded k M
+pub new_added : (k : ℕ) (M : Memories) (h : ℕ) → (step (new_store k) M).answer ≡ Ok (Handle h) → NewAdded k M
 unfolding any_step effect
 new_added k M h e =
     let r = new_right k M h e in

@@ -14,7 +14,9 @@ use Rattle.store_check.specs.Valid.{is_store, IsStore}
 use Rattle.store_check.proofs.Decide.{store_says}
 use Rattle.call_rules.specs.OnMemories.{set_places, rel_places, new_declines, new_step}
 use Rattle.call_rules.specs.declared.Answer.{Answer}
-use Rattle.call_rules.specs.declared.Answer.TheVariants.{Handle, Truth, SetNode, RelationNode, Declined, Pair, Nothing, Member}
+use Rattle.std.specs.Prelude.{Result, Ok, Err}
+use Rattle.call_rules.specs.declared.Refusal.{Refusal}
+use Rattle.call_rules.specs.declared.Answer.TheVariants.{Handle, Truth, SetNode, RelationNode, Pair, Nothing, Member}
 use Rattle.call_rules.proofs.Outcomes.{not_store}
 use Rattle.policies.specs.Outcome.{refused, text_verdict, policy_step}
 use Rattle.store.specs.Calls.{new_store, set_call, set_read, relation_call, relation_read, image_call, filter_call, path_read, step}
@@ -32,28 +34,28 @@ use Rattle.theorems.proofs.Matching.{matches_count}
 use Rattle.theorems.proofs.OneCall.{refused_stays}
 use Rattle.theorems.proofs.Refusing.{fine_answer, any_parts, reads_stay}
 
-is_refused : (a : Answer) → fine_answer a ≡ false → Refused a
-is_refused (Handle h) f = absurd (no_true f refl)
-is_refused (Truth b) f = absurd (no_true f refl)
-is_refused (SetNode x0 x1) f = absurd (no_true f refl)
-is_refused (RelationNode x00 x01 x10 x11) f = absurd (no_true f refl)
-is_refused (Declined r) f = record { why = r; is = refl }
-is_refused (Pair x y) f = absurd (no_true f refl)
-is_refused Nothing f = absurd (no_true f refl)
-is_refused (Member x) f = absurd (no_true f refl)
+is_refused : (a : Result Answer Refusal) → fine_answer a ≡ false → Refused a
+is_refused (Ok (Handle h)) f = absurd (no_true f refl)
+is_refused (Ok (Truth b)) f = absurd (no_true f refl)
+is_refused (Ok (SetNode x0 x1)) f = absurd (no_true f refl)
+is_refused (Ok (RelationNode x00 x01 x10 x11)) f = absurd (no_true f refl)
+is_refused (Err r) f = record { why = r; is = refl }
+is_refused (Ok (Pair x y)) f = absurd (no_true f refl)
+is_refused (Ok Nothing) f = absurd (no_true f refl)
+is_refused (Ok (Member x)) f = absurd (no_true f refl)
 
 module _ (M : Memories) where
   -- memories that are no store, unless a `new` begins one there
   none_there : is_store M ≡ false → (c : AnyCall) → AnyContinues c M → (any_step c M).state ≡ M
   unfolding any_step step new_step policy_step
   none_there e (call (new_store k)) g = refused_stays (set_places M) (rel_places M) (new_declines k M) new blank M (λ S. encode k S M) (g k refl)
-  none_there e (call (set_call c)) g = sym (ap (λ t. t.state) (not_store Declined (set_verdict c) M e))
-  none_there e (call (set_read c)) g = sym (ap (λ t. t.state) (not_store Declined (set_read_verdict c) M e))
-  none_there e (call (relation_call c)) g = sym (ap (λ t. t.state) (not_store Declined (relation_verdict c) M e))
-  none_there e (call (relation_read c)) g = sym (ap (λ t. t.state) (not_store Declined (relation_read_verdict c) M e))
-  none_there e (call (image_call c)) g = sym (ap (λ t. t.state) (not_store Declined (image_verdict c) M e))
-  none_there e (call (filter_call c)) g = sym (ap (λ t. t.state) (not_store Declined (filter_verdict c) M e))
-  none_there e (call (path_read c)) g = sym (ap (λ t. t.state) (not_store Declined (path_verdict c) M e))
+  none_there e (call (set_call c)) g = sym (ap (λ t. t.state) (not_store Err (set_verdict c) M e))
+  none_there e (call (set_read c)) g = sym (ap (λ t. t.state) (not_store Err (set_read_verdict c) M e))
+  none_there e (call (relation_call c)) g = sym (ap (λ t. t.state) (not_store Err (relation_verdict c) M e))
+  none_there e (call (relation_read c)) g = sym (ap (λ t. t.state) (not_store Err (relation_read_verdict c) M e))
+  none_there e (call (image_call c)) g = sym (ap (λ t. t.state) (not_store Err (image_verdict c) M e))
+  none_there e (call (filter_call c)) g = sym (ap (λ t. t.state) (not_store Err (filter_verdict c) M e))
+  none_there e (call (path_read c)) g = sym (ap (λ t. t.state) (not_store Err (path_verdict c) M e))
   none_there e (policy t) g = sym (ap (λ t. t.state) (not_store refused (text_verdict t) M e))
 
   abbrev own : Plain

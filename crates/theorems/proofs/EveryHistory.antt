@@ -18,7 +18,7 @@ use Rattle.call_rules.specs.Outcome.{outcome, map_answer}
 use Rattle.call_rules.specs.declared.Answer.TheVariants as store
 use Rattle.call_rules.specs.declared.Refusal.TheVariants.{UsedUp}
 use Rattle.policies.specs.Outcome.{policy_step}
-use Rattle.policies.specs.declared.PolicyAnswer.TheVariants.{Handle, Declined}
+use Rattle.std.specs.Prelude.{Ok, Err}
 use Rattle.policies.specs.declared.PolicyRefusal.TheVariants.{Store}
 use Rattle.theorems.specs.AllCalls.{AnyCall, policy, answered, read, any_step, all_calls, text_relates, WithinRules, policy_of}
 use Rattle.theorems.specs.EveryHistory.{arguments, replies, AcceptedIn, lent, memories_after, as_steps, plain_after, plain_run, HistoryRight}
@@ -34,14 +34,14 @@ use Rattle.theorems.proofs.PlainText.{plain_text}
 
 -- what the plain store P answers to a text that keeps the rules
 kept_answer : (m n k : ℕ) (t : List ℕ) (P : Plain) → P.width ≡ k → (r : WithinRules k t) → (let R = run (policy_program k (policy_of r)) P.lists in
-    (plain_policy_step m n t P).answer ≡ pick (fits_places m n R.store) (Handle R.value) (Declined (Store UsedUp)))
+    (plain_policy_step m n t P).answer ≡ pick (fits_places m n R.store) (Ok R.value) (Err (Store UsedUp)))
 kept_answer m n k t P w =
     subst (λ j. (r : WithinRules j t) → (let R = run (policy_program j (policy_of r)) P.lists in
-    (plain_policy_step m n t P).answer ≡ pick (fits_places m n R.store) (Handle R.value) (Declined (Store UsedUp)))) w
+    (plain_policy_step m n t P).answer ≡ pick (fits_places m n R.store) (Ok R.value) (Err (Store UsedUp)))) w
     (λ r. let R = run (policy_program P.width (policy_of r)) P.lists in
     ap (λ o. o.answer) ((plain_text m n t P).kept r)
-    ∙ by_test (λ b. (pick b (outcome (Handle R.value) (plain_store P.width R.store)) (outcome (Declined (Store UsedUp)) P)).answer
-    ≡ pick b (Handle R.value) (Declined (Store UsedUp))) (fits_places m n R.store) (λ _. refl) (λ _. refl))
+    ∙ by_test (λ b. (pick b (outcome (Ok R.value) (plain_store P.width R.store)) (outcome (Err (Store UsedUp)) P)).answer
+    ≡ pick b (Ok R.value) (Err (Store UsedUp))) (fits_places m n R.store) (λ _. refl) (λ _. refl))
 
 module _ (H : History) where
   abbrev k : ℕ
@@ -54,11 +54,11 @@ module _ (H : History) where
   M = H.new.after
 
   -- `new` as a step
-  new_comes : outcome (answered (store.Handle H.top)) M ≡ map_answer answered (step (new_store k) M₀)
+  new_comes : outcome (answered (Ok (store.Handle H.top))) M ≡ map_answer answered (step (new_store k) M₀)
   unfolding any_step
   new_comes = (λ i. outcome (sym H.accepted i) M) ∙ is_any_step H.new.promised ∙ ap (λ x. any_step x M₀) H.is_new
 
-  pub new_answer : (step (new_store k) M₀).answer ≡ store.Handle H.top
+  pub new_answer : (step (new_store k) M₀).answer ≡ Ok (store.Handle H.top)
   new_answer = let e = ap (λ t. t.answer) new_comes in sym (cc e)
 
   new_state : (step (new_store k) M₀).state ≡ M
@@ -120,10 +120,10 @@ module _ (H : History) where
     lasts_it = subst (λ X. HandlesLast (decode X) end) (left_parted before (it ∷ []) M)
         (lasts_parted (before ++ (it ∷ [])) later (is ∙ sym (append_assoc before (it ∷ []) later)))
 
-    right_it : (h : ℕ) → it.answer ≡ read (Handle h) → TextRight t it.before h
+    right_it : (h : ℕ) → it.answer ≡ read (Ok h) → TextRight t it.before h
     right_it h e = let q = sym (ap (λ u. u.answer) it_comes) ∙ e in text_right t it.before h (cc q)
 
-    relates_it : (h : ℕ) → it.answer ≡ read (Handle h) → Relates k (text_relates k t) end h
+    relates_it : (h : ℕ) → it.answer ≡ read (Ok h) → Relates k (text_relates k t) end h
     relates_it h e =
         let R : Relates k (text_relates k t) (decode it.after) h
         = subst₂ (λ j X. Relates j (text_relates j t) (decode X) h) width_it (sym (ap (λ u. u.state) it_comes)) (right_it h e).relates in
@@ -131,7 +131,7 @@ module _ (H : History) where
 
     answered_it : (r : WithinRules k t)
         → it.answer ≡ read (pick (fits_places (set_places M₀) (rel_places M₀) (plain_run H before (policy_of r)).store)
-        (Handle (plain_run H before (policy_of r)).value) (Declined (Store UsedUp)))
+        (Ok (plain_run H before (policy_of r)).value) (Err (Store UsedUp)))
     answered_it r =
         let A = (right (arguments before)).matches in
         let first = lent_first before (it ∷ later) is in

@@ -9,6 +9,8 @@ use Rattle.store.specs.Calls.{Call, new_store, set_call, set_read, relation_call
 use Rattle.call_rules.specs.Added.{node_counts, held_in}
 use Rattle.call_rules.specs.Outcome.{outcome, map_answer}
 use Rattle.call_rules.specs.declared.Answer.{Answer}
+use Rattle.std.specs.Prelude.{Result}
+use Rattle.call_rules.specs.declared.Refusal.{Refusal}
 use Rattle.call_rules.specs.declared.added.NodeCounts.{NodeCounts}
 use Rattle.call_rules.proofs.Counting.{without_counts}
 use Rattle.theorems.specs.AllCalls.{AnyCall, call, policy, AnyAnswer, answered, read, any_refusal, any_step, Effect, adds, reads, effect, nodes_added}
@@ -37,7 +39,7 @@ is_any_step p = without_counts (is_reply_step p)
 
 -- a call that renews nothing continues the store that is there
 continues : (x : AnyCall) {M M' : Memories} {w w' : List ℕ} {b : AnyAnswer} {n : NodeCounts} → Promised x M M' w w' (b, n)
-    → ((k : ℕ) (a : Answer) → x ≡ call (new_store k) → b ≡ answered a → Refused a) → AnyContinues x M
+    → ((k : ℕ) (a : Result Answer Refusal) → x ≡ call (new_store k) → b ≡ answered a → Refused a) → AnyContinues x M
 unfolding any_step
 continues (call c) p n = λ k e. n k _ (ap call e) (ap (λ t. t.answer) (is_any_step p))
 continues (policy t) p n = tt

@@ -26,8 +26,8 @@ use Rattle.store.specs.ImageCalls.{image_declines, image_program, filter_decline
 use Rattle.store.specs.ImageMeanings.{image_meaning, filter_meaning}
 use Rattle.store_check.specs.Memory.{Memories, fields, decode}
 use Rattle.store_check.specs.Valid.{IsStore}
-use Rattle.call_rules.specs.declared.Check.TheVariants.{Level}
-use Rattle.call_rules.specs.declared.Answer.TheVariants.{Handle, Declined}
+use Rattle.std.specs.Prelude.{Ok, Err}
+use Rattle.call_rules.specs.declared.Answer.TheVariants.{Handle}
 use Rattle.call_rules.specs.declared.Refusal.{Refusal}
 use Rattle.store.specs.declared.image_calls.ImageCall.{ImageCall}
 use Rattle.store.specs.declared.filter_calls.FilterCall.{FilterCall}
@@ -41,7 +41,7 @@ use Rattle.store.proofs.ImageSteps.{image_steps, filter_steps, path_steps}
 use Rattle.theorems.proofs.ReadMeans.{GivesOnly, gives_by, answer_has}
 
 -- what is found is answered by its numbers
-found_pair : (l : ℕ) (R : Rel) (o : Option (List ℕ)) → PairFinds l R o → the_first_pair l R (as_pair l o)
+found_pair : (l : ℕ) (R : Rel) (o : Option (List ℕ)) → PairFinds l R o → the_first_pair l R (Ok (as_pair l o))
 found_pair l R none n = n
 found_pair l R (some z) A = (
   number_below A.input,
@@ -51,13 +51,13 @@ found_pair l R (some z) A = (
 )
 
 module _ {k : ℕ} {S : Store} (F : WellFormed k S) where
-  path_refused : (c : PathRead) (r : Refusal) → path_meaning k c S (Declined r)
+  path_refused : (c : PathRead) (r : Refusal) → path_meaning k c S (Err r)
   unfolding path_meaning
   path_refused (HasImage p a) r = tt
   path_refused (HasPath p a q) r = tt
   path_refused (FirstPath p a q) r = tt
 
-  path_passes : (c : PathRead) (l : ℕ) → path_declines k c S ≡ Level l → path_meaning k c S (path_answer S l c)
+  path_passes : (c : PathRead) (l : ℕ) → path_declines k c S ≡ Ok l → path_meaning k c S (Ok (path_answer S l c))
   unfolding path_meaning
   path_passes (HasImage p a) l e =
       let t = pair_passed F rel set a p e in
@@ -70,20 +70,20 @@ module _ {k : ℕ} {S : Store} (F : WellFormed k S) where
       (own set S l p t.0.held) (relates_own S l a t.1.held) (own set S l q t.2.held)).after.post.means)
   path_passes (FirstPath p a q) l e =
       let t = path_passed F p a q e in
-      subst (λ j. the_first_pair j (Through S p a q) (as_pair l (first_path l S p a q))) (sym t.1.level)
+      subst (λ j. the_first_pair j (Through S p a q) (Ok (as_pair l (first_path l S p a q)))) (sym t.1.level)
       (found_pair l (Through S p a q) (first_path l S p a q) (pair_finds l (Through S p a q) (passes_through S p a q) (λ x y X Y. through_iff S p a q x y)))
 
   pub path_gives : (c : PathRead) → GivesOnly (path_meaning k c S) (path_verdict c k S)
   path_gives c = gives_by (path_meaning k c S) (path_declines k c S) (λ l. path_answer S l c) (path_refused c) (path_passes c)
 
 -- THE FACTS: of a call on a store, what the handle h that it gave means afterwards, or what its answer says
-pub image_call_means : (c : ImageCall) (M : Memories) (h : ℕ) → IsStore M → (step (image_call c) M).answer ≡ Handle h
+pub image_call_means : (c : ImageCall) (M : Memories) (h : ℕ) → IsStore M → (step (image_call c) M).answer ≡ Ok (Handle h)
     → image_meaning (fields M) c (decode M) (decode (step (image_call c) M).state) h
 image_call_means c M h s q = subst (λ t. image_meaning (fields M) c (decode M) (decode t.state) h) (sym (image_steps c M))
     (means (λ k S. image_declines k c S) (λ k l. image_program l c) M s (image_meaning (fields M) c (decode M)) h (λ l e. image_does s.formed c e)
     (ap (λ t. t.answer) (sym (image_steps c M)) ∙ q))
 
-pub filter_call_means : (c : FilterCall) (M : Memories) (h : ℕ) → IsStore M → (step (filter_call c) M).answer ≡ Handle h
+pub filter_call_means : (c : FilterCall) (M : Memories) (h : ℕ) → IsStore M → (step (filter_call c) M).answer ≡ Ok (Handle h)
     → filter_meaning (fields M) c (decode M) (decode (step (filter_call c) M).state) h
 filter_call_means c M h s q = subst (λ t. filter_meaning (fields M) c (decode M) (decode t.state) h) (sym (filter_steps c M))
     (means (λ k S. filter_declines k c S) (λ k l. filter_program l c) M s (filter_meaning (fields M) c (decode M)) h (λ l e. filter_does s.formed c e)
@@ -92,4 +92,4 @@ filter_call_means c M h s q = subst (λ t. filter_meaning (fields M) c (decode M
 pub path_read_means : (c : PathRead) (M : Memories) → IsStore M
     → path_meaning (fields M) c (decode M) (step (path_read c) M).answer × ((step (path_read c) M).state ≡ M)
 path_read_means c M s = subst (λ t. path_meaning (fields M) c (decode M) t.answer × (t.state ≡ M)) (sym (path_steps c M))
-    (answer_has Declined (path_verdict c) M s (path_meaning (fields M) c (decode M)) (path_gives s.formed c))
+    (answer_has Err (path_verdict c) M s (path_meaning (fields M) c (decode M)) (path_gives s.formed c))

@@ -16,7 +16,8 @@ use Rattle.store.specs.ImageCalls.{filter_program, filter_verdict}
 use Rattle.store.specs.ImageMeanings.{image_meaning, filter_meaning}
 use Rattle.store_check.specs.Memory.{Memories, fields, decode}
 use Rattle.store_check.specs.Valid.{IsStore}
-use Rattle.call_rules.specs.declared.Answer.TheVariants.{Handle, Declined}
+use Rattle.call_rules.specs.declared.Answer.TheVariants.{Handle}
+use Rattle.std.specs.Prelude.{Ok, Err}
 use Rattle.call_rules.specs.declared.Refusal.TheVariants.{NotHeld}
 use Rattle.store.specs.declared.image_calls.ImageCall.TheVariants.{Bwd}
 use Rattle.store.specs.declared.filter_calls.FilterCall.TheVariants.{Ibwd}
@@ -37,17 +38,17 @@ domain_of {l} {S} {S₁} {S₂} {p} {r} {h} F E P A B = canonical↔ set l h p F
   λ c. (x, X, (A.means x x X X).1 (sym (ext_walk E p P X) ∙ c)),
 ))
 
-module _ (M : Memories) (p r : ℕ) (s : IsStore M) (e : (step (filter_call (Ibwd p)) M).answer ≡ Handle r) where
+module _ (M : Memories) (p r : ℕ) (s : IsStore M) (e : (step (filter_call (Ibwd p)) M).answer ≡ Ok (Handle r)) where
   abbrev M₁ : Memories
   M₁ = (step (filter_call (Ibwd p)) M).state
 
   held_operand : is_held set (decode M) p ≡ true
   held_operand = by_test (λ b. is_held set (decode M) p ≡ b → is_held set (decode M) p ≡ true) (is_held set (decode M) p) (λ _ t. t)
-      (λ _ f. absurd (not_handle (ap (λ t. t.answer) (given Declined (filter_verdict (Ibwd p)) M s (Declined NotHeld)
-      (ap (λ c. unless_declined Declined c (λ l. runs (filter_program l (Ibwd p)) as_handle)) (one_none set s.formed p f))
+      (λ _ f. absurd (not_handle (ap (λ t. t.answer) (given Err (filter_verdict (Ibwd p)) M s (Err NotHeld)
+      (ap (λ c. unless_declined Err c (λ l. runs (filter_program l (Ibwd p)) as_handle)) (one_none set s.formed p f))
       ∙ sym (filter_steps (Ibwd p) M)) ∙ e))) refl
 
-  pub bwd_after_ibwd : (h : ℕ) → (step (image_call (Bwd r)) M₁).answer ≡ Handle h → h ≡ p
+  pub bwd_after_ibwd : (h : ℕ) → (step (image_call (Bwd r)) M₁).answer ≡ Ok (Handle h) → h ≡ p
   unfolding image_meaning filter_meaning effect
   bwd_after_ibwd h f =
       let t = held_here set s.formed p held_operand in

@@ -11,9 +11,9 @@ use Rattle.store_check.specs.Valid.{is_store}
 use Rattle.call_rules.specs.OnMemories.{on_store}
 use Rattle.call_rules.specs.Outcome.{Verdict, gives, runs, guard, unless_declined, outcome, finishes}
 use Rattle.call_rules.specs.declared.Answer.{Answer}
-use Rattle.call_rules.specs.declared.Answer.TheVariants.{Declined}
-use Rattle.call_rules.specs.declared.Check.{Check}
-use Rattle.call_rules.specs.declared.Check.TheVariants.{Level, No}
+use Rattle.std.specs.Prelude.{Result, Ok, Err}
+use Rattle.call_rules.specs.declared.Refusal.{Refusal}
+use Rattle.call_rules.specs.Outcome.{Check}
 use Rattle.call_rules.specs.declared.Refusal.TheVariants.{NotStore, UsedUp}
 use Rattle.store.specs.Calls.{Call, new_store, set_call, set_read, relation_call, relation_read, image_call, filter_call, path_read, step}
 use Rattle.store.specs.ImageCalls.{image_declines, filter_declines, path_declines}
@@ -26,26 +26,27 @@ use Rattle.theorems.specs.JobLists.{HandleOrTruth, a_handle, a_truth, a_refusal,
 use Rattle.theorems.proofs.JobOperations.{is_job_call, asks_job_call}
 
 -- A VERDICT whose answers are such
-abbrev Plainly : Verdict Answer → Type 0
+abbrev Plainly : Verdict (Result Answer Refusal) → Type 0
 Plainly (gives a) = HandleOrTruth a
 Plainly (runs p f) = (R : Ran) → HandleOrTruth (f R)
 
-checked_plainly : (c : Check) (v : ℕ → Verdict Answer) → ((l : ℕ) → Plainly (v l)) → Plainly (unless_declined Declined c v)
-checked_plainly (Level l) v h = h l
-checked_plainly (No r) v h = a_refusal r
+checked_plainly : (c : Check) (v : ℕ → Verdict (Result Answer Refusal)) → ((l : ℕ) → Plainly (v l)) → Plainly (unless_declined Err c v)
+checked_plainly (Ok l) v h = h l
+checked_plainly (Err r) v h = a_refusal r
 
-finishes_plainly : {X : Type 0} (m n : ℕ) (v : Verdict Answer) (S : Store) (x : X) (put : Store → X) → Plainly v
-    → HandleOrTruth (finishes (Declined UsedUp) m n v S x put).answer
+finishes_plainly : {X : Type 0} (m n : ℕ) (v : Verdict (Result Answer Refusal)) (S : Store) (x : X) (put : Store → X) → Plainly v
+    → HandleOrTruth (finishes (Err UsedUp) m n v S x put).answer
 unfolding finishes
 finishes_plainly m n (gives a) S x put h = h
 finishes_plainly m n (runs p f) S x put h = let R = run p S in
-    by_test (λ b. HandleOrTruth (pick b (outcome (f R) (put R.store)) (outcome (Declined UsedUp) x)).answer) (fits_places m n R.store)
+    by_test (λ b. HandleOrTruth (pick b (outcome (f R) (put R.store)) (outcome (Err UsedUp) x)).answer) (fits_places m n R.store)
     (λ _. h R) (λ _. a_refusal UsedUp)
 
-store_plainly : (v : ℕ → Store → Verdict Answer) (M : Memories) → ((k : ℕ) (S : Store) → Plainly (v k S)) → HandleOrTruth (on_store Declined v M).answer
+store_plainly : (v : ℕ → Store → Verdict (Result Answer Refusal)) (M : Memories) → ((k : ℕ) (S : Store) → Plainly (v k S))
+    → HandleOrTruth (on_store Err v M).answer
 unfolding on_store
 store_plainly v M h = finishes_plainly _ _ _ (decode M) M _
-    (checked_plainly (guard NotStore (is_store M) (Level (fields M))) (λ k. v k (decode M)) (λ k. h k (decode M)))
+    (checked_plainly (guard NotStore (is_store M) (Ok (fields M))) (λ k. v k (decode M)) (λ k. h k (decode M)))
 
 -- A CALL, by its verdict
 call_plainly : (c : Call) → is_job_call c ≡ true → (M : Memories) → HandleOrTruth (step c M).answer

@@ -14,6 +14,7 @@ use Rattle.store_check.proofs.Decide.{store_says}
 use Rattle.store_check.proofs.Deciding.{decided_true}
 use Rattle.call_rules.specs.Outcome.{Outcome, outcome}
 use Rattle.call_rules.specs.declared.Answer.{Answer}
+use Rattle.std.specs.Prelude.{Result}
 use Rattle.call_rules.specs.declared.Refusal.{Refusal}
 use Rattle.call_rules.specs.declared.Refusal.TheVariants.{NotStore, OutOfRange}
 use Rattle.store.specs.Calls.{Call, step}
@@ -42,7 +43,7 @@ record AsOne {X : Type 0} (first second whole : Progress X) : Type 0 where
   state : second.state ≡ whole.state
   left : first.left + second.left ≡ whole.left
 
-module _ {X : Type 0} (act : Call → X → Outcome Answer X) where
+module _ {X : Type 0} (act : Call → X → Outcome (Result Answer Refusal) X) where
   -- jobs that were run are passed over
   passed : (n : ℕ) (done js later : List Job) (x : X) → NoneWaits js → run_jobs act n done (js ++ later) x ≡ run_jobs act n (done ++ js) later x
   unfolding run_jobs
@@ -118,7 +119,7 @@ abbrev as_called : {X : Type 0} → Outcome JobsAnswer X → Outcome Called (Len
 as_called t = outcome t.answer.called (lent t.answer.jobs t.state)
 
 -- ON ANY STATE
-module _ {X : Type 0} (act : Call → X → Outcome Answer X) where
+module _ {X : Type 0} (act : Call → X → Outcome (Result Answer Refusal) X) where
   abbrev on : ℕ → Lent X → Outcome Called (Lent X)
   on = call_on (jobs_on act)
 

@@ -6,6 +6,7 @@ use mathlib.Core.Bool.{Bool, true, false}
 use Prim.Native.Nat.{ℕ, zero, suc, ◌-◌}
 use lib.ListN.{get_or, replicate, get_or-map}
 use lib.Dec.{eqb}
+use Rattle.std.specs.Prelude.{Option, Some, None}
 use Rattle.model.specs.Store.{pick}
 use Rattle.model.proofs.Bools.{by_test, no_true}
 use Rattle.store.specs.Calls.{Call, new_store, set_call, set_read, relation_call, relation_read, image_call, filter_call, path_read}
@@ -19,8 +20,6 @@ use Rattle.jobs.specs.declared.Job.{Job}
 use Rattle.jobs.specs.declared.Operand.{Operand}
 use Rattle.jobs.specs.declared.operations.Slot.{Slot}
 use Rattle.jobs.specs.declared.operations.Slot.TheVariants.{Spare, Set, Relation, Number}
-use Rattle.jobs.specs.declared.turns.Value.{Value}
-use Rattle.jobs.specs.declared.turns.Value.TheVariants.{Is, Missing}
 use Rattle.theorems.specs.JobLists.{SameOperand, SpareIgnored}
 
 -- WHICH CALLS THEY ARE: the test of one that answers with a handle, yes or no, and is no `new`
@@ -65,11 +64,11 @@ abbrev does_ask : Asks → Bool
 does_ask (calls c) = is_job_call c
 does_ask (refuses r) = true
 
-values_are : (o : Operation) → ((x y z : ℕ) → is_entry o x y z ≡ true) → (u v w : Value) → does_ask (with_values o u v w) ≡ true
-values_are o h (Is x) (Is y) (Is z) = h x y z
-values_are o h (Is x) (Is y) Missing = refl
-values_are o h (Is x) Missing w = refl
-values_are o h Missing v w = refl
+values_are : (o : Operation) → ((x y z : ℕ) → is_entry o x y z ≡ true) → (u v w : Option ℕ) → does_ask (with_values o u v w) ≡ true
+values_are o h (Some x) (Some y) (Some z) = h x y z
+values_are o h (Some x) (Some y) None = refl
+values_are o h (Some x) None w = refl
+values_are o h None v w = refl
 
 pub asks_job_call : (j a b c : Job) (d : Call) → asks j a b c ≡ calls d → is_job_call d ≡ true
 unfolding asks
@@ -102,10 +101,10 @@ module _ (j k : Job) (kind : j.kind ≡ k.kind) (value : j.value ≡ k.value) wh
 
   stands_alike : (s : Slot) (o : Operand) (done : List Job) → stands_for s o (named done j o) ≡ stands_for s o (named done k o)
   stands_alike Spare o done = refl
-  stands_alike Set o done = λ i. pick (eqb o.job 0) (Is o.number)
-      (pick (eqb (named_kind done o.number i) set_handle) (Is (named_value done o.number i)) Missing)
-  stands_alike Relation o done = λ i. pick (eqb o.job 0) (Is o.number)
-      (pick (eqb (named_kind done o.number i) relation_handle) (Is (named_value done o.number i)) Missing)
+  stands_alike Set o done = λ i. pick (eqb o.job 0) (Some o.number)
+      (pick (eqb (named_kind done o.number i) set_handle) (Some (named_value done o.number i)) None)
+  stands_alike Relation o done = λ i. pick (eqb o.job 0) (Some o.number)
+      (pick (eqb (named_kind done o.number i) relation_handle) (Some (named_value done o.number i)) None)
   stands_alike Number o done = refl
 
   stands_same : (s : Slot) (o p : Operand) (done : List Job) → SameOperand s o p → stands_for s o (named done j o) ≡ stands_for s p (named done k p)

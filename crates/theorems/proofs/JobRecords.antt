@@ -11,7 +11,9 @@ use Rattle.model.specs.Store.{pick}
 use Rattle.model.proofs.Bools.{by_test, no_true}
 use Rattle.call_rules.specs.Outcome.{Outcome, outcome}
 use Rattle.call_rules.specs.declared.Answer.{Answer}
-use Rattle.call_rules.specs.declared.Answer.TheVariants.{Handle, Truth, SetNode, RelationNode, Declined, Pair, Nothing, Member}
+use Rattle.std.specs.Prelude.{Result, Ok, Err}
+use Rattle.call_rules.specs.declared.Refusal.{Refusal}
+use Rattle.call_rules.specs.declared.Answer.TheVariants.{Handle, Truth, SetNode, RelationNode, Pair, Nothing, Member}
 use Rattle.call_rules.specs.declared.Refusal.TheVariants.{OutOfRange}
 use Rattle.store.specs.Calls.{Call, new_store, set_call, set_read, relation_call, relation_read, image_call, filter_call, path_read}
 use Rattle.jobs.specs.Jobs.{is_waiting, handle_kind, answer_kind, Asks, calls, refuses, carried_out, Turn, turn, ran, take_turn}
@@ -30,15 +32,15 @@ handle_run (image_call c) = refl
 handle_run (filter_call c) = refl
 handle_run (path_read c) = refl
 
-answer_run : (c : Call) (a : Answer) → eqb (answer_kind c a) 0 ≡ false
-answer_run c (Handle h) = handle_run c
-answer_run c (Truth b) = refl
-answer_run c (SetNode x0 x1) = refl
-answer_run c (RelationNode x00 x01 x10 x11) = refl
-answer_run c (Declined r) = refl
-answer_run c (Pair x y) = refl
-answer_run c Nothing = refl
-answer_run c (Member x) = refl
+answer_run : (c : Call) (a : Result Answer Refusal) → eqb (answer_kind c a) 0 ≡ false
+answer_run c (Ok (Handle h)) = handle_run c
+answer_run c (Ok (Truth b)) = refl
+answer_run c (Ok (SetNode x0 x1)) = refl
+answer_run c (Ok (RelationNode x00 x01 x10 x11)) = refl
+answer_run c (Err r) = refl
+answer_run c (Ok (Pair x y)) = refl
+answer_run c (Ok Nothing) = refl
+answer_run c (Ok (Member x)) = refl
 
 -- a record behind others
 at_end : (l : List Job) (r : Job) (m : List Job) (d : Job) (i : ℕ) → length l ≡ i → get_or (l ++ (r ∷ []) ++ m) i d ≡ r
@@ -47,7 +49,7 @@ at_end [] r m d (suc i) e = absurd (omega (arith, e))
 at_end (k ∷ l) r m d zero e = absurd (omega (arith, e))
 at_end (k ∷ l) r m d (suc i) e = at_end l r m d i (omega (arith, e))
 
-module _ {X : Type 0} (act : Call → X → Outcome Answer X) where
+module _ {X : Type 0} (act : Call → X → Outcome (Result Answer Refusal) X) where
   pub carried_run : (j : Job) (q : Asks) (x : X) → is_waiting (carried_out act j q x).answer ≡ false
   carried_run j (calls c) x = answer_run c (act c x).answer
   carried_run j (refuses v) x = refl

@@ -8,6 +8,8 @@ use Rattle.model.specs.Store.{pick}
 use Rattle.model.proofs.Bools.{by_test}
 use Rattle.call_rules.specs.Outcome.{Outcome, outcome}
 use Rattle.call_rules.specs.declared.Answer.{Answer}
+use Rattle.std.specs.Prelude.{Result}
+use Rattle.call_rules.specs.declared.Refusal.{Refusal}
 use Rattle.call_rules.specs.declared.Refusal.TheVariants.{OutOfRange}
 use Rattle.store.specs.Calls.{Call}
 use Rattle.jobs.specs.Jobs.{is_waiting, answer_kind, answer_value, with_answer, named, Asks, calls, refuses, carried_out, Turn, turn, ran, take_turn}
@@ -17,7 +19,7 @@ use Rattle.theorems.specs.JobLists.{asks_after}
 use Rattle.theorems.proofs.JobOperations.{NotNew, asks_kept}
 
 -- TWO STATES, in the relation R
-module _ {X Y : Type 0} (act : Call → X → Outcome Answer X) (act' : Call → Y → Outcome Answer Y) (R : X → Y → Type 0)
+module _ {X Y : Type 0} (act : Call → X → Outcome (Result Answer Refusal) X) (act' : Call → Y → Outcome (Result Answer Refusal) Y) (R : X → Y → Type 0)
     (kept : (c : Call) → NotNew c → (x : X) (y : Y) → R x y → ((act c x).answer ≡ (act' c y).answer) × R (act c x).state (act' c y).state) where
   record TurnsAlike (t : Turn X) (u : Turn Y) : Type 0 where
     job : t.job ≡ u.job
@@ -74,7 +76,7 @@ module _ {X Y : Type 0} (act : Call → X → Outcome Answer X) (act' : Call →
       (λ _. record { answer = refl; states = r })
 
 -- ONE STATE: what every call keeps
-pub jobs_keep : {X : Type 0} (act : Call → X → Outcome Answer X) (Q : X → Type 0) → ((c : Call) → NotNew c → (x : X) → Q x → Q (act c x).state)
+pub jobs_keep : {X : Type 0} (act : Call → X → Outcome (Result Answer Refusal) X) (Q : X → Type 0) → ((c : Call) → NotNew c → (x : X) → Q x → Q (act c x).state)
     → (js : List Job) (n : ℕ) (x : X) → Q x → Q (jobs_on act js n x).state
 jobs_keep act Q kept js n x q = (jobs_in_step act act (λ x y. (x ≡ y) × Q y)
     (λ c o x y r. (ap (λ z. (act c z).answer) r.0, (ap (λ z. (act c z).state) r.0, kept c o y r.1))) js n x x (refl, q)).states.1

@@ -16,42 +16,42 @@ use Rattle.call_rules.specs.declared.Refusal.TheVariants.{TooLong, UsedUp}
 use Rattle.policy_text.specs.XForms.{x_forms}
 use Rattle.policy_text.specs.Answers.{tree}
 use Rattle.policy_text.specs.Reading.{reading}
-use Rattle.policy_text.specs.declared.Reading.{Reading}
+use Rattle.policy_text.specs.Misreads.{Reading}
 use Rattle.policy_text.proofs.XLaws.{x_lawful, x_bounds}
 use Rattle.policy_text.proofs.Says.{keeps_rules, tree_is}
 use Rattle.theorems.specs.AllCalls.{WithinRules, policy_of}
 use Rattle.call_rules.proofs.Declining.{program_in, not_runs}
 use Rattle.policies.specs.Outcome.{refused, built_handle, of_reading, is_short, text_verdict, most_bytes}
-use Rattle.policies.specs.declared.PolicyAnswer.{PolicyAnswer}
-use Rattle.policies.specs.declared.PolicyAnswer.TheVariants.{Handle, Declined}
+use Rattle.policies.specs.Answers.{PolicyAnswer}
+use Rattle.std.specs.Prelude.{Ok, Err}
 use Rattle.policies.specs.declared.PolicyRefusal.{PolicyRefusal}
 
 -- a refusal is no handle
-pub not_handle : {r : PolicyRefusal} {h : ℕ} → Declined r ≡ Handle h → ⊥
+pub not_handle : {r : PolicyRefusal} {h : ℕ} → Err r ≡ Ok h → ⊥
 not_handle e = let z : ◌≡◌ {A = ℕ} 0 1 = cc e in omega arith
 
 -- A HANDLE is that of the program that was run, which fitted: no verdict of a text gives one
 abbrev pub NoHandle : Verdict PolicyAnswer → Type 0
-NoHandle (gives (Handle h)) = ⊥
-NoHandle (gives (Declined r)) = Unit {0}
+NoHandle (gives (Ok h)) = ⊥
+NoHandle (gives (Err r)) = Unit {0}
 NoHandle (runs p f) = Unit {0}
 
 pub record RanTo (v : Verdict PolicyAnswer) (S : Nodes) (h : ℕ) {X : Type 0} (x : X) (put : Nodes → X) : Type 0 where
   pub program : Prog
   pub made : Ran → PolicyAnswer
   pub verdict : v ≡ runs program made
-  pub answer : made (run program S) ≡ Handle h
+  pub answer : made (run program S) ≡ Ok h
   pub state : x ≡ put (run program S).store
 
 module _ {X : Type 0} (m n : ℕ) (S : Nodes) (x : X) (put : Nodes → X) (h : ℕ) where
   pub accepted_ran : (v : Verdict PolicyAnswer) → NoHandle v
-      → (let t = finishes (refused UsedUp) m n v S x put in t.answer ≡ Handle h → RanTo v S h t.state put)
+      → (let t = finishes (refused UsedUp) m n v S x put in t.answer ≡ Ok h → RanTo v S h t.state put)
   unfolding finishes
-  accepted_ran (gives (Handle g)) o e = absurd o
-  accepted_ran (gives (Declined r)) o e = absurd (not_handle e)
+  accepted_ran (gives (Ok g)) o e = absurd o
+  accepted_ran (gives (Err r)) o e = absurd (not_handle e)
   accepted_ran (runs p f) o e =
       by_test (λ b. (let t = pick b (outcome (f (run p S)) (put (run p S).store)) (outcome (refused UsedUp) x) in
-      t.answer ≡ Handle h → RanTo (runs p f) S h t.state put)) (fits_places m n (run p S).store)
+      t.answer ≡ Ok h → RanTo (runs p f) S h t.state put)) (fits_places m n (run p S).store)
       (λ t e. record { program = p; made = f; verdict = refl; answer = e; state = refl })
       (λ t e. absurd (not_handle e)) e
 
@@ -64,11 +64,8 @@ made_in (runs p f) R = f R
 module _ (k : ℕ) (t : List ℕ) (S : Nodes) where
   read_none : (r : Reading) → NoHandle (of_reading k t r)
   unfolding of_reading
-  read_none Reading.Policy = tt
-  read_none (Reading.NotPolicy i) = tt
-  read_none (Reading.TooDeep i) = tt
-  read_none (Reading.NoField i) = tt
-  read_none (Reading.NotPredicate i) = tt
+  read_none (Ok u) = tt
+  read_none (Err m) = tt
 
   pub text_none : NoHandle (text_verdict t k S)
   unfolding text_verdict
@@ -77,19 +74,16 @@ module _ (k : ℕ) (t : List ℕ) (S : Nodes) where
 
   module _ (p : Prog) (f : Ran → PolicyAnswer) where
     read_builds : (r : Reading) → reading x_forms k t ≡ r → of_reading k t r ≡ runs p f
-        → (reading x_forms k t ≡ Reading.Policy) × (runs (policy_program k (tree x_forms t)) built_handle ≡ runs p f)
+        → (reading x_forms k t ≡ Ok tt) × (runs (policy_program k (tree x_forms t)) built_handle ≡ runs p f)
     unfolding of_reading
-    read_builds Reading.Policy q e = (q, e)
-    read_builds (Reading.NotPolicy i) q e = absurd (not_runs e)
-    read_builds (Reading.TooDeep i) q e = absurd (not_runs e)
-    read_builds (Reading.NoField i) q e = absurd (not_runs e)
-    read_builds (Reading.NotPredicate i) q e = absurd (not_runs e)
+    read_builds (Ok u) q e = (q, e)
+    read_builds (Err m) q e = absurd (not_runs e)
 
   -- what a text's verdict runs is the program of its policy
   pub record KeptText (p : Prog) (f : Ran → PolicyAnswer) : Type 0 where
     pub keeps : WithinRules k t
     pub program : policy_program k (policy_of keeps) ≡ p
-    pub made : (R : Ran) → f R ≡ Handle R.value
+    pub made : (R : Ran) → f R ≡ Ok R.value
 
   pub builds_kept : (p : Prog) (f : Ran → PolicyAnswer) → text_verdict t k S ≡ runs p f → KeptText p f
   unfolding text_verdict

@@ -11,6 +11,7 @@ use Rattle.theorems.specs.PlainStore.{Plain}
 use Rattle.store_check.specs.Memory.{Memories, decode}
 use Rattle.call_rules.specs.Outcome.{Outcome}
 use Rattle.call_rules.specs.declared.Answer.TheVariants.{Handle}
+use Rattle.std.specs.Prelude.{Ok}
 use Rattle.theorems.proofs.InTurn.{turn_parted, each_later, turn_answers, turn_kept, turn_continues}
 use Rattle.theorems.proofs.NewMatches.{new_matches}
 use Rattle.theorems.proofs.OneCall.{call_right}
@@ -55,7 +56,7 @@ module _ {C A : Type 0} (Z : Calling C A) (right : (M₀ M : Memories) (P : Plai
       list_lasts r = subst₂ HandlesLast (sym m.lists) (sym list_matches.lists) (list_continues r).handles
 
   -- THE THEOREM: after an accepted `new`, whatever the memories were before it and whatever the calls
-  pub lists_right : (k : ℕ) (M₀ : Memories) (h : ℕ) → (step (new_store k) M₀).answer ≡ Handle h → (cs : List C) → ListRight Z k M₀ cs
+  pub lists_right : (k : ℕ) (M₀ : Memories) (h : ℕ) → (step (new_store k) M₀).answer ≡ Ok (Handle h) → (cs : List C) → ListRight Z k M₀ cs
   lists_right k M₀ h e cs =
       let t = new_matches k M₀ h e in
       let m = t.1 in
@@ -72,5 +73,5 @@ module _ {C A : Type 0} (Z : Calling C A) (right : (M₀ M : Memories) (P : Plai
       }
 
 -- for the calls of `store`
-pub list_right : (k : ℕ) (M₀ : Memories) (h : ℕ) → (step (new_store k) M₀).answer ≡ Handle h → (cs : List Call) → ListRight store_calls k M₀ cs
+pub list_right : (k : ℕ) (M₀ : Memories) (h : ℕ) → (step (new_store k) M₀).answer ≡ Ok (Handle h) → (cs : List Call) → ListRight store_calls k M₀ cs
 list_right = lists_right store_calls (λ M₀ M P m c. call_right m c)

@@ -24,8 +24,9 @@ use Rattle.store_check.specs.Memory.{Memories, fields, decode}
 use Rattle.store_check.specs.Valid.{IsStore}
 use Rattle.call_rules.specs.Outcome.{gives, unless_declined, of_one}
 use Rattle.call_rules.specs.declared.Answer.{Answer}
-use Rattle.call_rules.specs.declared.Answer.TheVariants.{Declined, Nothing, Member}
-use Rattle.call_rules.specs.declared.Check.TheVariants.{Level}
+use Rattle.std.specs.Prelude.{Result, Ok, Err}
+use Rattle.call_rules.specs.declared.Refusal.{Refusal}
+use Rattle.call_rules.specs.declared.Answer.TheVariants.{Nothing, Member}
 use Rattle.call_rules.specs.declared.Refusal.TheVariants.{OutOfRange}
 use Rattle.call_rules.proofs.Handles.{one_is, also_no, also_yes}
 use Rattle.call_rules.proofs.Outcomes.{given}
@@ -55,23 +56,23 @@ module _ {S : Store} {l : ℕ} (c : Cursor) {M : Memories} (H : Holds S l c.hand
   same_next = ap (λ o. pick (eqb c.ended 0) o none) (first_alike l (is_to_come here l c) (is_to_come S l c)
       (λ p P. ap (λ n. eqb n 1 && (eqb c.given 0 || is_before (packet l c.last) p)) (H.lasts.walks p P)))
 
-  held_one : of_one (fields M) set here c.handle ≡ Level l
+  held_one : of_one (fields M) set here c.handle ≡ Ok l
   held_one =
       let A = H.lasts.held in
       one_is set H.store.formed c.handle l (T_true _ (held_tested set here l c.handle A))
       (sym (level_is set here (fields M) l c.handle (held_most set l c.handle H.store.formed A) A))
 
-  answered : (r : Answer) → set_read_verdict (Next c) (fields M) here ≡ gives r → next_answer M c ≡ r
-  answered r e = ap (λ t. t.answer) (set_read_steps (Next c) M ∙ sym (given Declined (set_read_verdict (Next c)) M H.store r e))
+  answered : (r : Result Answer Refusal) → set_read_verdict (Next c) (fields M) here ≡ gives r → next_answer M c ≡ r
+  answered r e = ap (λ t. t.answer) (set_read_steps (Next c) M ∙ sym (given Err (set_read_verdict (Next c)) M H.store r e))
 
-  next_is : does_last_fit l c ≡ true → next_answer M c ≡ as_member (next_member S l c)
-  next_is e = answered (as_member (next_member here l c))
-      (ap (λ d. unless_declined Declined d (λ l. gives (set_read_answer here l (Next c)))) (also_yes OutOfRange (λ l. does_last_fit l c) held_one l refl e))
-      ∙ ap as_member same_next
+  next_is : does_last_fit l c ≡ true → next_answer M c ≡ Ok (as_member (next_member S l c))
+  next_is e = answered (Ok (as_member (next_member here l c)))
+      (ap (λ d. unless_declined Err d (λ l. gives (Ok (set_read_answer here l (Next c))))) (also_yes OutOfRange (λ l. does_last_fit l c) held_one l refl e))
+      ∙ ap (λ o. Ok (as_member o)) same_next
 
-  next_refused : does_last_fit l c ≡ false → next_answer M c ≡ Declined OutOfRange
-  next_refused e = answered (Declined OutOfRange)
-      (ap (λ d. unless_declined Declined d (λ l. gives (set_read_answer here l (Next c)))) (also_no OutOfRange (λ l. does_last_fit l c) held_one l refl e))
+  next_refused : does_last_fit l c ≡ false → next_answer M c ≡ Err OutOfRange
+  next_refused e = answered (Err OutOfRange)
+      (ap (λ d. unless_declined Err d (λ l. gives (Ok (set_read_answer here l (Next c))))) (also_no OutOfRange (λ l. does_last_fit l c) held_one l refl e))
 
 -- so wherever the set is held there is one answer
 one_answer : {S : Store} {l : ℕ} (c : Cursor) {M M' : Memories} → Holds S l c.handle M → Holds S l c.handle M' → next_answer M c ≡ next_answer M' c
@@ -143,30 +144,30 @@ module _ (S : Store) (l : ℕ) (c : Cursor) where
         ∙ rest_passes l (is_to_come S l c) passes
 
 -- the end for ever
-ended_on : (n : ℕ) (c : Cursor) → given_in_turn n [] (at_end c) ≡ record { answers = replicate n Nothing; state = at_end c }
+ended_on : (n : ℕ) (c : Cursor) → given_in_turn n [] (at_end c) ≡ record { answers = replicate n (Ok Nothing); state = at_end c }
 unfolding given_in_turn
 ended_on zero c = refl
 ended_on (suc n) c = λ i. record {
-  answers = replicate (suc n) Nothing;
+  answers = replicate (suc n) (Ok Nothing);
   state = record { handle = c.handle; last = c.last; given = c.given; ended = pick (marked c.ended i) 1 (at_end c).ended };
 }
 
 -- IN TURN: one call, and those after it
-turn : (M : Memories) (Ms : List Memories) (c : Cursor) (ps : List (List ℕ)) → next_answer M c ≡ as_member (head ps)
-    → (ps ≡ [] → nexts Ms (at_end c) ≡ record { answers = replicate (length Ms) Nothing; state = at_end c })
+turn : (M : Memories) (Ms : List Memories) (c : Cursor) (ps : List (List ℕ)) → next_answer M c ≡ Ok (as_member (head ps))
+    → (ps ≡ [] → nexts Ms (at_end c) ≡ record { answers = replicate (length Ms) (Ok Nothing); state = at_end c })
     → ((p : List ℕ) (qs : List (List ℕ)) → ps ≡ p ∷ qs → nexts Ms (with_last c (number p)) ≡ given_in_turn (length Ms) qs (with_last c (number p)))
     → nexts (M ∷ Ms) c ≡ given_in_turn (suc (length Ms)) ps c
 unfolding in_turn given_in_turn
 turn M Ms c [] a f g = ap (λ x. record { answers = x ∷ (nexts Ms (moved x c)).answers; state = (nexts Ms (moved x c)).state }) a
-    ∙ ap (λ r. record { answers = Nothing ∷ r.answers; state = r.state }) (f refl)
+    ∙ ap (λ r. record { answers = Ok Nothing ∷ r.answers; state = r.state }) (f refl)
 turn M Ms c (p ∷ ps) a f g = ap (λ x. record { answers = x ∷ (nexts Ms (moved x c)).answers; state = (nexts Ms (moved x c)).state }) a
-    ∙ ap (λ r. record { answers = Member (number p) ∷ r.answers; state = r.state }) (g p ps refl)
+    ∙ ap (λ r. record { answers = Ok (Member (number p)) ∷ r.answers; state = r.state }) (g p ps refl)
 
 module _ (S : Store) (l : ℕ) where
   taken : (Ms : List Memories) (c : Cursor) → Each (Holds S l c.handle) Ms → LastFits l c → nexts Ms c ≡ given_in_turn (length Ms) (to_come S l c) c
   unfolding in_turn given_in_turn
   taken [] c E f = refl
-  taken (M ∷ Ms) c E f = turn M Ms c (to_come S l c) (next_is c E.0 f ∙ ap as_member (next_head S l c))
+  taken (M ∷ Ms) c E f = turn M Ms c (to_come S l c) (next_is c E.0 f ∙ ap (λ o. Ok (as_member o)) (next_head S l c))
       (λ e. taken Ms (at_end c) E.1 f ∙ ap (λ ps. given_in_turn (length Ms) ps (at_end c)) (none_at_end S l c) ∙ ended_on (length Ms) c)
       (λ p qs e. taken Ms (with_last c (number p)) E.1 (last_fits S l c p qs e)
       ∙ ap (λ ps. given_in_turn (length Ms) ps (with_last c (number p))) (others S l c p qs e))

@@ -17,9 +17,10 @@ use Rattle.call_rules.specs.Added.{of_kind, held_in, less}
 use Rattle.call_rules.specs.OnMemories.{set_places, rel_places, on_store}
 use Rattle.call_rules.specs.Outcome.{runs, unless_declined, as_handle, guard, Outcome, outcome, finishes}
 use Rattle.call_rules.specs.declared.Answer.{Answer}
-use Rattle.call_rules.specs.declared.Answer.TheVariants.{Handle, Declined}
-use Rattle.call_rules.specs.declared.Check.{Check}
-use Rattle.call_rules.specs.declared.Check.TheVariants.{Level, No}
+use Rattle.std.specs.Prelude.{Result, Ok, Err}
+use Rattle.call_rules.specs.declared.Refusal.{Refusal}
+use Rattle.call_rules.specs.declared.Answer.TheVariants.{Handle}
+use Rattle.call_rules.specs.Outcome.{Check}
 use Rattle.call_rules.specs.declared.Refusal.TheVariants.{NotStore, UsedUp}
 use Rattle.call_rules.specs.declared.added.NodeCounts.{NodeCounts}
 use Rattle.call_rules.proofs.Encoding.{encode_count}
@@ -103,28 +104,28 @@ module _ (K : Kind) (x : List ℕ) (M : Memories) where
           }
 
   -- from the verdict of `mk`, whatever it declines
-  abbrev Adds : ℕ → Outcome Answer Memories → Type 0
-  Adds h t = t.answer ≡ Handle h → MkAdded K x M (less (held_in t.state) (held_in M))
+  abbrev Adds : ℕ → Outcome (Result Answer Refusal) Memories → Type 0
+  Adds h t = t.answer ≡ Ok (Handle h) → MkAdded K x M (less (held_in t.state) (held_in M))
 
-  mk_verdict : (h : ℕ) (c : Check) → Adds h (ended Declined M (unless_declined Declined c (λ l. runs (mk K x) as_handle)))
+  mk_verdict : (h : ℕ) (c : Check) → Adds h (ended Err M (unless_declined Err c (λ l. runs (mk K x) as_handle)))
   unfolding finishes run
-  mk_verdict h (No r) = λ e. absurd (not_handle e)
-  mk_verdict h (Level l) = by_test (λ b. Adds h (pick b (outcome (Handle (run (mk K x) (decode M)).value) M') (outcome (Declined UsedUp) M)))
+  mk_verdict h (Err r) = λ e. absurd (not_handle e)
+  mk_verdict h (Ok l) = by_test (λ b. Adds h (pick b (outcome (Ok (Handle (run (mk K x) (decode M)).value)) M') (outcome (Err UsedUp) M)))
       (fits_places (set_places M) (rel_places M) (mk_store K x (decode M))) (λ _ _. mk_added) (λ _ e. absurd (not_handle e))
 
   mk_call : (h : ℕ) (check : ℕ → Store → Check)
-      → Adds h (on_store Declined (λ k S. unless_declined Declined (check k S) (λ l. runs (mk K x) as_handle)) M)
+      → Adds h (on_store Err (λ k S. unless_declined Err (check k S) (λ l. runs (mk K x) as_handle)) M)
   unfolding on_store guard finishes
-  mk_call h check = by_test (λ b. Adds h (ended Declined M (unless_declined Declined (guard NotStore b (Level (fields M)))
-      (λ k. unless_declined Declined (check k (decode M)) (λ l. runs (mk K x) as_handle)))))
+  mk_call h check = by_test (λ b. Adds h (ended Err M (unless_declined Err (guard NotStore b (Ok (fields M)))
+      (λ k. unless_declined Err (check k (decode M)) (λ l. runs (mk K x) as_handle)))))
       (is_store M) (λ _. mk_verdict h (check (fields M) (decode M))) (λ _ e. absurd (not_handle e))
 
-pub set_mk_added : (x0 x1 : ℕ) (M : Memories) (h : ℕ) → (step (set_call (T.Mk x0 x1)) M).answer ≡ Handle h
+pub set_mk_added : (x0 x1 : ℕ) (M : Memories) (h : ℕ) → (step (set_call (T.Mk x0 x1)) M).answer ≡ Ok (Handle h)
     → MkAdded set (x0 ∷ x1 ∷ []) M (its_added (call (set_call (T.Mk x0 x1))) M)
 unfolding any_step effect step
 set_mk_added x0 x1 M h e = mk_call set (x0 ∷ x1 ∷ []) M h (λ k S. set_declines k (T.Mk x0 x1) S) e
 
-pub relation_mk_added : (x00 x01 x10 x11 : ℕ) (M : Memories) (h : ℕ) → (step (relation_call (R.Mk x00 x01 x10 x11)) M).answer ≡ Handle h
+pub relation_mk_added : (x00 x01 x10 x11 : ℕ) (M : Memories) (h : ℕ) → (step (relation_call (R.Mk x00 x01 x10 x11)) M).answer ≡ Ok (Handle h)
     → MkAdded rel (x00 ∷ x01 ∷ x10 ∷ x11 ∷ []) M (its_added (call (relation_call (R.Mk x00 x01 x10 x11))) M)
 unfolding any_step effect step
 relation_mk_added x00 x01 x10 x11 M h e = mk_call rel (x00 ∷ x01 ∷ x10 ∷ x11 ∷ []) M h (λ k S. relation_declines k (R.Mk x00 x01 x10 x11) S) e

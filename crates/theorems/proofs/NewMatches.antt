@@ -16,9 +16,10 @@ use Rattle.theorems.specs.Lists.{Matches}
 use Rattle.theorems.specs.PlainStore.{begun}
 use Rattle.store_check.specs.Memory.{Memories, memory, head, encode}
 use Rattle.call_rules.specs.Outcome.{runs, unless_declined, as_handle, guard, Outcome, outcome, finishes}
-use Rattle.call_rules.specs.declared.Check.TheVariants.{Level}
+use Rattle.std.specs.Prelude.{Result, Ok, Err}
 use Rattle.call_rules.specs.declared.Answer.{Answer}
-use Rattle.call_rules.specs.declared.Answer.TheVariants.{Handle, Declined}
+use Rattle.call_rules.specs.declared.Refusal.{Refusal}
+use Rattle.call_rules.specs.declared.Answer.TheVariants.{Handle}
 use Rattle.call_rules.specs.declared.Refusal.TheVariants.{NotStore, OutOfRange, UsedUp}
 use Rattle.theorems.proofs.Matching.{matches_written}
 use Rattle.theorems.proofs.OneCall.{not_handle, fits_space}
@@ -32,16 +33,16 @@ module _ (k : ℕ) (M : Memories) (h : ℕ) where
   abbrev made : Ran
   made = run (new k) blank
 
-  abbrev Begins : Outcome Answer Memories → Type 0
-  Begins t = t.answer ≡ Handle h → (t.answer ≡ Handle made.value) × Matches M t.state (begun k)
+  abbrev Begins : Outcome (Result Answer Refusal) Memories → Type 0
+  Begins t = t.answer ≡ Ok (Handle h) → (t.answer ≡ Ok (Handle made.value)) × Matches M t.state (begun k)
 
   accepted : (b c : Bool) → leb k 32 ≡ b → are_heads M ≡ c
-      → Begins (finishes (Declined UsedUp) (set_places M) (rel_places M)
-      (unless_declined Declined (guard OutOfRange b (guard NotStore c (Level k))) (λ k. runs (new k) as_handle)) blank M (λ S. encode k S M))
+      → Begins (finishes (Err UsedUp) (set_places M) (rel_places M)
+      (unless_declined Err (guard OutOfRange b (guard NotStore c (Ok k))) (λ k. runs (new k) as_handle)) blank M (λ S. encode k S M))
   unfolding finishes guard
   accepted false c few there = λ e. absurd (not_handle e)
   accepted true false few there = λ e. absurd (not_handle e)
-  accepted true true few there = by_test (λ b. Begins (pick b (outcome (Handle made.value) (encode k made.store M)) (outcome (Declined UsedUp) M)))
+  accepted true true few there = by_test (λ b. Begins (pick b (outcome (Ok (Handle made.value)) (encode k made.store M)) (outcome (Err UsedUp) M)))
       (fits_places (set_places M) (rel_places M) made.store)
       (λ t e. (refl, matches_written (new_does k).after.formed (fits_space (heads_there M there) t) (leb→le k 32 (subst T (sym few) tt))))
       (λ t e. absurd (not_handle e))

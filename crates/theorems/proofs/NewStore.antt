@@ -16,7 +16,10 @@ use Rattle.model.proofs.Settle.{run_ext, settled, settled_later}
 use Rattle.store_check.specs.Memory.{Memories, fields, decode, encode}
 use Rattle.call_rules.specs.OnMemories.{set_places, rel_places}
 use Rattle.call_rules.specs.Outcome.{runs, as_handle, outcome, finishes}
-use Rattle.call_rules.specs.declared.Answer.TheVariants.{Handle, Declined}
+use Rattle.call_rules.specs.declared.Answer.{Answer}
+use Rattle.call_rules.specs.declared.Answer.TheVariants.{Handle}
+use Rattle.call_rules.specs.declared.Refusal.{Refusal}
+use Rattle.std.specs.Prelude.{Result, Ok, Err}
 use Rattle.call_rules.specs.declared.Refusal.TheVariants.{UsedUp}
 use Rattle.store.specs.Calls.{Call, new_store, set_call, relation_call, step}
 use Rattle.store.specs.Meanings.{set_meaning, relation_meaning}
@@ -38,18 +41,18 @@ first_settled p f S s = settled_later (run_ext (f (run p S).value) (run p S).sto
 -- a call that runs a settled program leaves the memories as they are
 module _ {M₀ M : Memories} {P : Plain} (A : Matches M₀ M P) (c : Call) (p : Prog) (r : ℕ) (s : Settled p P.lists r)
     (e : plain_step (set_places M₀) (rel_places M₀) c P
-    ≡ finishes (Declined UsedUp) (set_places M₀) (rel_places M₀) (runs p as_handle) P.lists P (plain_store P.width)) where
+    ≡ finishes (Err UsedUp) (set_places M₀) (rel_places M₀) (runs p as_handle) P.lists P (plain_store P.width)) where
   fits : fits_places (set_places M₀) (rel_places M₀) P.lists ≡ true
   fits = rw (le-leb _ _ ((matches_space A).within set), le-leb _ _ ((matches_space A).within rel))
 
-  plain_there : plain_step (set_places M₀) (rel_places M₀) c P ≡ outcome (Handle r) P
+  plain_there : plain_step (set_places M₀) (rel_places M₀) c P ≡ outcome (Ok (Handle r)) P
   unfolding finishes
   plain_there = e
-      ∙ ap (λ R. pick (fits_places (set_places M₀) (rel_places M₀) R.store) (outcome (Handle R.value) (plain_store P.width R.store))
-      (outcome (Declined UsedUp) P)) (s.again P.lists ext_refl)
-      ∙ ap (λ b. pick b (outcome (Handle r) P) (outcome (Declined UsedUp) P)) fits
+      ∙ ap (λ R. pick (fits_places (set_places M₀) (rel_places M₀) R.store) (outcome (Ok (Handle R.value)) (plain_store P.width R.store))
+      (outcome (Err UsedUp) P)) (s.again P.lists ext_refl)
+      ∙ ap (λ b. pick b (outcome (Ok (Handle r)) P) (outcome (Err UsedUp) P)) fits
 
-  call_there : step c M ≡ outcome (Handle r) M
+  call_there : step c M ≡ outcome (Ok (Handle r)) M
   call_there =
       let a = (call_right A c).alike in
       let x = a.answer ∙ ap (λ u. u.answer) plain_there in
@@ -96,7 +99,7 @@ module _ (k : ℕ) where
         top = settled (top_at_depth k) S₄ s.1.1.1.1;
       }
 
-module _ (k : ℕ) (M : Memories) (h : ℕ) (e : (step (new_store k) M).answer ≡ Handle h) where
+module _ (k : ℕ) (M : Memories) (h : ℕ) (e : (step (new_store k) M).answer ≡ Ok (Handle h)) where
   abbrev M' : Memories
   M' = (step (new_store k) M).state
 
@@ -109,14 +112,14 @@ module _ (k : ℕ) (M : Memories) (h : ℕ) (e : (step (new_store k) M).answer �
   answered : (run (new k) blank).value ≡ h
   answered = handles (sym (new_matches k M h e).0 ∙ e)
     where
-      handles : {g h : ℕ} → Handle g ≡ Handle h → g ≡ h
+      handles : {g h : ℕ} → ◌≡◌ {A = Result Answer Refusal} (Ok (Handle g)) (Ok (Handle h)) → g ≡ h
       handles e = cc e
 
   -- a call that runs a part of `new`; Q is what its handle means in a store of as many fields
   there : (c : Call) (Q : ℕ → Store → ℕ → Type 0) (p : Prog) (r : ℕ) → Settled p S r
       → plain_step (set_places M) (rel_places M) c (begun k)
-      ≡ finishes (Declined UsedUp) (set_places M) (rel_places M) (runs p as_handle) S (begun k) (plain_store k)
-      → ((step c M').answer ≡ Handle r → Q (fields M') (decode (step c M').state) r) → There M' c (Q k (decode M'))
+      ≡ finishes (Err UsedUp) (set_places M) (rel_places M) (runs p as_handle) S (begun k) (plain_store k)
+      → ((step c M').answer ≡ Ok (Handle r) → Q (fields M') (decode (step c M').state) r) → There M' c (Q k (decode M'))
   there c Q p r s q means = let is = call_there A c p r s q in record {
     handle = r;
     is = is;
@@ -134,7 +137,7 @@ module _ (k : ℕ) (M : Memories) (h : ℕ) (e : (step (new_store k) M).answer �
     sets = matches_count A set ∙ (new_counts k).1;
     written = A.written ∙ ap (λ T. encode k T M) (sym A.lists);
     full = subst (λ T. Relates k (λ p q. Unit {0}) T h) (sym A.lists) (subst (Relates k (λ p q. Unit {0}) S) answered (new_does k).after.post);
-    top = call_there A (relation_call R.Top) (top_at_depth k) _ t.top refl ∙ ap (λ h. outcome (Handle h) M') answered;
+    top = call_there A (relation_call R.Top) (top_at_depth k) _ t.top refl ∙ ap (λ h. outcome (Ok (Handle h)) M') answered;
     zero = there (relation_call R.Zero) (λ j. Relates j (λ p q. ⊥)) _ _ t.zero.there refl (relation_call_means R.Zero M' _ A.store);
     one = there (relation_call R.One) (λ j. Relates j (λ p q. p ≡ q)) _ _ t.one.there refl (relation_call_means R.One M' _ A.store);
     set_zero = there (set_call T.Zero) (λ j. Den set j (λ p. ⊥)) _ _ t.set_zero.there refl (set_call_means T.Zero M' _ A.store);

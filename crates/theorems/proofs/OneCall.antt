@@ -29,10 +29,10 @@ use Rattle.call_rules.specs.Outcome.{Verdict, gives, runs, unless_declined, as_h
 use Rattle.store.specs.RelationCalls.{relation_declines, relation_program, relation_verdict, relation_read_declines, relation_read_answer}
 use Rattle.store.specs.RelationCalls.{relation_read_verdict}
 use Rattle.store.specs.SetCalls.{set_declines, set_program, set_verdict, set_read_declines, set_read_answer, set_read_verdict}
-use Rattle.call_rules.specs.declared.Check.{Check}
-use Rattle.call_rules.specs.declared.Check.TheVariants.{Level, No}
+use Rattle.call_rules.specs.Outcome.{Check}
+use Rattle.std.specs.Prelude.{Result, Ok, Err}
 use Rattle.call_rules.specs.declared.Answer.{Answer}
-use Rattle.call_rules.specs.declared.Answer.TheVariants.{Handle, Declined}
+use Rattle.call_rules.specs.declared.Answer.TheVariants.{Handle}
 use Rattle.call_rules.specs.declared.Refusal.{Refusal}
 use Rattle.call_rules.specs.declared.Refusal.TheVariants.{OutOfRange, NotStore, UsedUp}
 use Rattle.store.specs.declared.filter_calls.FilterCall.{FilterCall}
@@ -55,7 +55,7 @@ pub record Sound {A : Type 0} (v : ℕ → Store → Verdict A) : Type 0 where
 -- a call that is not declined: it runs a program, or gives an answer
 module _ {A : Type 0} (refuse : Refusal → A) (check : ℕ → Store → Check) where
   pub runs_sound : (program : ℕ → ℕ → Prog) (answer : Store → Ran → A)
-      → ((k : ℕ) (S : Store) (l : ℕ) → WellFormed k S → check k S ≡ Level l → WellFormed k (run (program k l) S).store)
+      → ((k : ℕ) (S : Store) (l : ℕ) → WellFormed k S → check k S ≡ Ok l → WellFormed k (run (program k l) S).store)
       → Sound (λ k S. unless_declined refuse (check k S) (λ l. runs (program k l) (answer S)))
   runs_sound program answer h = record {
     formed = λ k S p f F e. let w = declined_runs refuse (check k S) (program k) (answer S) p f e in
@@ -66,17 +66,17 @@ module _ {A : Type 0} (refuse : Refusal → A) (check : ℕ → Store → Check)
   gives_sound answer = record { formed = λ k S p f F e. absurd (declined_gives refuse (check k S) (answer S) p f e) }
 
 set_sound : (c : SetCall) → Sound (set_verdict c)
-set_sound c = runs_sound Declined (λ k S. set_declines k c S) (λ k l. set_program k l c) (λ S. as_handle) (λ k S l F e. (set_does F c e).after.formed)
+set_sound c = runs_sound Err (λ k S. set_declines k c S) (λ k l. set_program k l c) (λ S. as_handle) (λ k S l F e. (set_does F c e).after.formed)
 
 relation_sound : (c : RelationCall) → Sound (relation_verdict c)
-relation_sound c = runs_sound Declined (λ k S. relation_declines k c S) (λ k l. relation_program k l c) (λ S. as_handle)
+relation_sound c = runs_sound Err (λ k S. relation_declines k c S) (λ k l. relation_program k l c) (λ S. as_handle)
     (λ k S l F e. (relation_does F c e).after.formed)
 
 image_sound : (c : ImageCall) → Sound (image_verdict c)
-image_sound c = runs_sound Declined (λ k S. image_declines k c S) (λ k l. image_program l c) (λ S. as_handle) (λ k S l F e. (image_does F c e).after.formed)
+image_sound c = runs_sound Err (λ k S. image_declines k c S) (λ k l. image_program l c) (λ S. as_handle) (λ k S l F e. (image_does F c e).after.formed)
 
 filter_sound : (c : FilterCall) → Sound (filter_verdict c)
-filter_sound c = runs_sound Declined (λ k S. filter_declines k c S) (λ k l. filter_program l c) (λ S. as_handle) (λ k S l F e. (filter_does F c e).after.formed)
+filter_sound c = runs_sound Err (λ k S. filter_declines k c S) (λ k l. filter_program l c) (λ S. as_handle) (λ k S l F e. (filter_does F c e).after.formed)
 
 -- THE LISTS ONLY GROW: P' has the number of fields of P, and its lists have the nodes of P's and perhaps more after them
 pub record Grown (P P' : Plain) : Type 0 where
@@ -101,16 +101,16 @@ pub grown_continues : {P P' : Plain} → Grown P P' → ContinuesTo P P'
 grown_continues g = record { width = g.width; handles = λ K l h A. ext_lasts g.lists A }
 
 -- a refusal is no handle
-pub not_handle : {r : Refusal} {h : ℕ} → Declined r ≡ Handle h → ⊥
+pub not_handle : {r : Refusal} {h : ℕ} → Err r ≡ Ok (Handle h) → ⊥
 not_handle e = let z : ◌≡◌ {A = ℕ} 0 1 = cc e in omega arith
 
 -- a refusal leaves what was there
 pub refused_stays : {X : Type 0} (m n : ℕ) (c : Check) (p : ℕ → Prog) (S : Store) (x : X) (put : Store → X)
-    → (let t = finishes (Declined UsedUp) m n (unless_declined Declined c (λ l. runs (p l) as_handle)) S x put in Refused t.answer → t.state ≡ x)
+    → (let t = finishes (Err UsedUp) m n (unless_declined Err c (λ l. runs (p l) as_handle)) S x put in Refused t.answer → t.state ≡ x)
 unfolding finishes
-refused_stays m n (No r) p S x put R = refl
-refused_stays m n (Level l) p S x put R = let T = run (p l) S in
-    by_test (λ b. (let t = pick b (outcome (Handle T.value) (put T.store)) (outcome (Declined UsedUp) x) in Refused t.answer → t.state ≡ x))
+refused_stays m n (Err r) p S x put R = refl
+refused_stays m n (Ok l) p S x put R = let T = run (p l) S in
+    by_test (λ b. (let t = pick b (outcome (Ok (Handle T.value)) (put T.store)) (outcome (Err UsedUp) x) in Refused t.answer → t.state ≡ x))
     (fits_places m n T.store) (λ t R. absurd (not_handle (sym R.is))) (λ t R. refl) R
 
 -- THE SAME ANSWER, AND THEY MATCH AGAIN
@@ -162,14 +162,14 @@ module _ {M₀ M : Memories} {P : Plain} (A : Matches M₀ M P) where
   new_alike : (k : ℕ) → Alike M₀ (step (new_store k) M) (plain_step m n (new_store k) P)
   unfolding step new_step plain_step asked
   new_alike k =
-      let c = guard OutOfRange (leb k 32) (Level k) in
-      let v = unless_declined Declined c (λ k. runs (new k) as_handle) in
-      let e : step (new_store k) M ≡ finishes (Declined UsedUp) m n v blank M (λ S. encode k S M)
-      = λ i. finishes (Declined UsedUp) (A.places set i) (A.places rel i)
-      (unless_declined Declined (guard OutOfRange (leb k 32) (guard_yes NotStore (are_heads M) (Level k) heads_yes i)) (λ k. runs (new k) as_handle))
+      let c = guard OutOfRange (leb k 32) (Ok k) in
+      let v = unless_declined Err c (λ k. runs (new k) as_handle) in
+      let e : step (new_store k) M ≡ finishes (Err UsedUp) m n v blank M (λ S. encode k S M)
+      = λ i. finishes (Err UsedUp) (A.places set i) (A.places rel i)
+      (unless_declined Err (guard OutOfRange (leb k 32) (guard_yes NotStore (are_heads M) (Ok k) heads_yes i)) (λ k. runs (new k) as_handle))
       blank M (λ S. encode k S M) in
-      subst (λ t. Alike M₀ t (plain_step m n (new_store k) P)) (sym e) (finishes_alike (Declined UsedUp) k blank v (λ p f q.
-      let w = declined_runs Declined c new as_handle p f q in
+      subst (λ t. Alike M₀ t (plain_step m n (new_store k) P)) (sym e) (finishes_alike (Err UsedUp) k blank v (λ p f q.
+      let w = declined_runs Err c new as_handle p f q in
       let t = guard_passed _ _ w.passes in (
         leb→le k 32 (subst T (sym t.0) tt),
         subst (λ p. WellFormed k (run p blank).store) (ap new (ap level_in t.1) ∙ w.program)
@@ -177,29 +177,29 @@ module _ {M₀ M : Memories} {P : Plain} (A : Matches M₀ M P) where
       )))
 
   -- a call of `store` whose verdict on a store is v
-  verdict_right : (c : Call) (v : ℕ → Store → Verdict Answer) → Sound v → step c M ≡ on_store Declined v M → plain_step m n c P ≡ on_lists Declined m n v P
-      → CallRight store_calls M₀ M P c
+  verdict_right : (c : Call) (v : ℕ → Store → Verdict (Result Answer Refusal)) → Sound v → step c M ≡ on_store Err v M
+      → plain_step m n c P ≡ on_lists Err m n v P → CallRight store_calls M₀ M P c
   verdict_right c v s e f = record {
-    alike = subst (λ t. Alike M₀ t (plain_step m n c P)) (sym e) (subst (Alike M₀ (on_store Declined v M)) (sym f) (verdict_alike Declined v s));
-    continues = λ r. subst (λ u. ContinuesTo P u.state) (sym f) (grown_continues (verdict_grown Declined m n v P));
+    alike = subst (λ t. Alike M₀ t (plain_step m n c P)) (sym e) (subst (Alike M₀ (on_store Err v M)) (sym f) (verdict_alike Err v s));
+    continues = λ r. subst (λ u. ContinuesTo P u.state) (sym f) (grown_continues (verdict_grown Err m n v P));
   }
 
   new_grown : (k : ℕ) → NewRefused (new_store k) M → Grown P (plain_step m n (new_store k) P).state
   unfolding plain_step asked
-  new_grown k r = subst (Grown P) (sym (refused_stays m n (guard OutOfRange (leb k 32) (Level k)) new blank P (plain_store k)
+  new_grown k r = subst (Grown P) (sym (refused_stays m n (guard OutOfRange (leb k 32) (Ok k)) new blank P (plain_store k)
       (subst Refused (new_alike k).answer (r k refl)))) (grown_none P)
 
   -- the calls of `store` only add nodes, unless `new` is accepted
   pub call_grown : (c : Call) → NewRefused c M → Grown P (plain_step m n c P).state
   unfolding plain_step asked on_lists
   call_grown (new_store k) r = new_grown k r
-  call_grown (set_call c) r = verdict_grown Declined m n (set_verdict c) P
-  call_grown (set_read c) r = verdict_grown Declined m n (set_read_verdict c) P
-  call_grown (relation_call c) r = verdict_grown Declined m n (relation_verdict c) P
-  call_grown (relation_read c) r = verdict_grown Declined m n (relation_read_verdict c) P
-  call_grown (image_call c) r = verdict_grown Declined m n (image_verdict c) P
-  call_grown (filter_call c) r = verdict_grown Declined m n (filter_verdict c) P
-  call_grown (path_read c) r = verdict_grown Declined m n (path_verdict c) P
+  call_grown (set_call c) r = verdict_grown Err m n (set_verdict c) P
+  call_grown (set_read c) r = verdict_grown Err m n (set_read_verdict c) P
+  call_grown (relation_call c) r = verdict_grown Err m n (relation_verdict c) P
+  call_grown (relation_read c) r = verdict_grown Err m n (relation_read_verdict c) P
+  call_grown (image_call c) r = verdict_grown Err m n (image_verdict c) P
+  call_grown (filter_call c) r = verdict_grown Err m n (filter_verdict c) P
+  call_grown (path_read c) r = verdict_grown Err m n (path_verdict c) P
 
   new_right : (k : ℕ) → CallRight store_calls M₀ M P (new_store k)
   new_right k = record { alike = new_alike k; continues = λ r. grown_continues (new_grown k r) }
@@ -210,11 +210,11 @@ module _ {M₀ M : Memories} {P : Plain} (A : Matches M₀ M P) where
   call_right (new_store k) = new_right k
   call_right (set_call c) = verdict_right (set_call c) (set_verdict c) (set_sound c) refl refl
   call_right (set_read c) = verdict_right (set_read c) (set_read_verdict c)
-      (gives_sound Declined (λ k S. set_read_declines k c S) (λ S l. set_read_answer S l c)) refl refl
+      (gives_sound Err (λ k S. set_read_declines k c S) (λ S l. Ok (set_read_answer S l c))) refl refl
   call_right (relation_call c) = verdict_right (relation_call c) (relation_verdict c) (relation_sound c) refl refl
   call_right (relation_read c) = verdict_right (relation_read c) (relation_read_verdict c)
-      (gives_sound Declined (λ k S. relation_read_declines k c S) (λ S l. relation_read_answer S l c)) refl refl
+      (gives_sound Err (λ k S. relation_read_declines k c S) (λ S l. Ok (relation_read_answer S l c))) refl refl
   call_right (image_call c) = verdict_right (image_call c) (image_verdict c) (image_sound c) refl refl
   call_right (filter_call c) = verdict_right (filter_call c) (filter_verdict c) (filter_sound c) refl refl
   call_right (path_read c) = verdict_right (path_read c) (path_verdict c)
-      (gives_sound Declined (λ k S. path_declines k c S) (λ S l. path_answer S l c)) refl refl
+      (gives_sound Err (λ k S. path_declines k c S) (λ S l. Ok (path_answer S l c))) refl refl

@@ -25,10 +25,10 @@ use Rattle.policy_text.proofs.Says.{tree_is}
 use Rattle.theorems.specs.AllCalls.{policy_of, text_relates}
 use Rattle.theorems.specs.OneText.{TextRight}
 use Rattle.policies.specs.Outcome.{refused, text_verdict, policy_step}
-use Rattle.policies.specs.declared.PolicyAnswer.{PolicyAnswer}
-use Rattle.policies.specs.declared.PolicyAnswer.TheVariants.{Handle}
+use Rattle.policies.specs.Answers.{PolicyAnswer}
+use Rattle.std.specs.Prelude.{Ok}
 use Rattle.call_rules.proofs.Outcomes.{ended, store_outcome}
-use Rattle.policies.proofs.BuiltTexts.{policy_not_store}
+use Rattle.policies.specs.Declining.{policy_no_store}
 use Rattle.theorems.proofs.KeptTexts.{not_handle, accepted_ran, text_none, KeptText, builds_kept}
 
 -- a text has one policy, so what it relates is what that policy means
@@ -42,16 +42,16 @@ kept_does {k} {S = S} F K =
     subst (λ p. Does k S p (Relates k (meaning k (policy_of K.keeps)))) K.program (policy_does (policy_of K.keeps) K.keeps.rules.below F)
 
 -- only a store accepts a text
-accepted_store : (t : List ℕ) (M : Memories) (h : ℕ) → (policy_step t M).answer ≡ Handle h → IsStore M
+accepted_store : (t : List ℕ) (M : Memories) (h : ℕ) → (policy_step t M).answer ≡ Ok h → IsStore M
 accepted_store t M h e = by_test (λ b. is_store M ≡ b → IsStore M) (is_store M)
     (λ _ s. (store_says M).iff.0 (subst T (sym s) tt))
-    (λ _ s. absurd (not_handle (ap (λ u. u.answer) (policy_not_store t M s) ∙ e))) refl
+    (λ _ s. absurd (not_handle (ap (λ u. u.answer) (policy_no_store t M s) ∙ e))) refl
 
-handles : {g h : ℕ} → Handle g ≡ Handle h → g ≡ h
+handles : {g h : ℕ} → ◌≡◌ {A = PolicyAnswer} (Ok g) (Ok h) → g ≡ h
 handles e = cc e
 
 -- THE THEOREM
-pub text_right : (t : List ℕ) (M : Memories) (h : ℕ) → (policy_step t M).answer ≡ Handle h → TextRight t M h
+pub text_right : (t : List ℕ) (M : Memories) (h : ℕ) → (policy_step t M).answer ≡ Ok h → TextRight t M h
 unfolding policy_step
 text_right t M h e =
     let k = fields M in

@@ -5,8 +5,8 @@ use Prim.Native.Nat.{ℕ}
 use Rattle.call_rules.specs.Outcome.{Verdict, gives, runs, outcome, finishes}
 use Rattle.call_rules.specs.declared.Refusal.TheVariants.{UsedUp}
 use Rattle.policies.specs.Outcome.{refused, text_verdict}
-use Rattle.policies.specs.declared.PolicyAnswer.{PolicyAnswer}
-use Rattle.policies.specs.declared.PolicyAnswer.TheVariants.{Handle, Declined}
+use Rattle.policies.specs.Answers.{PolicyAnswer}
+use Rattle.std.specs.Prelude.{Ok, Err}
 use Rattle.policies.specs.declared.PolicyRefusal.{PolicyRefusal}
 use Rattle.theorems.specs.AllCalls.{WithinRules}
 use Rattle.theorems.specs.PlainStore.{Plain, plain_store, on_lists, plain_policy_step}
@@ -22,7 +22,7 @@ module _ (m n : ℕ) (t : List ℕ) (P : Plain) where
   }
     where
       by_verdict : ¬ WithinRules P.width t → (v : Verdict PolicyAnswer) → text_verdict t P.width P.lists ≡ v → NoHandle v
-          → (r : PolicyRefusal) × (finishes (refused UsedUp) m n v P.lists P (plain_store P.width) ≡ outcome (Declined r) P)
-      by_verdict away (gives (Handle h)) e o = absurd o
-      by_verdict away (gives (Declined r)) e o = (r, refl)
+          → (r : PolicyRefusal) × (finishes (refused UsedUp) m n v P.lists P (plain_store P.width) ≡ outcome (Err r) P)
+      by_verdict away (gives (Ok h)) e o = absurd o
+      by_verdict away (gives (Err r)) e o = (r, refl)
       by_verdict away (runs p f) e o = absurd (away (builds_kept P.width t P.lists p f e).keeps)

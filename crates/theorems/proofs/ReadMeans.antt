@@ -37,9 +37,8 @@ use Rattle.store.specs.Cursors.{is_to_come, next_member, as_member}
 use Rattle.store.specs.SetCalls.{set_read_declines, set_read_answer, set_read_verdict}
 use Rattle.store_check.specs.Valid.{IsStore}
 use Rattle.call_rules.specs.declared.Answer.{Answer}
-use Rattle.call_rules.specs.declared.Answer.TheVariants.{Declined}
-use Rattle.call_rules.specs.declared.Check.{Check}
-use Rattle.call_rules.specs.declared.Check.TheVariants.{Level, No}
+use Rattle.std.specs.Prelude.{Result, Ok, Err}
+use Rattle.call_rules.specs.Outcome.{Check}
 use Rattle.call_rules.specs.declared.Refusal.{Refusal}
 use Rattle.store.specs.declared.relation_reads.RelationRead.{RelationRead}
 use Rattle.store.specs.declared.relation_reads.RelationRead.TheVariants as R
@@ -57,10 +56,10 @@ GivesOnly P (gives a) = P a
 GivesOnly P (runs p f) = ⊥
 
 -- where every refusal has P, and the answer of a call that is not declined
-pub gives_by : (P : Answer → Type 0) (c : Check) (f : ℕ → Answer) → ((r : Refusal) → P (Declined r)) → ((l : ℕ) → c ≡ Level l → P (f l))
-    → GivesOnly P (unless_declined Declined c (λ l. gives (f l)))
-gives_by P (Level l) f refused passes = passes l refl
-gives_by P (No r) f refused passes = refused r
+pub gives_by : (P : Result Answer Refusal → Type 0) (c : Check) (f : ℕ → Answer) → ((r : Refusal) → P (Err r)) → ((l : ℕ) → c ≡ Ok l → P (Ok (f l)))
+    → GivesOnly P (unless_declined Err c (λ l. gives (Ok (f l))))
+gives_by P (Ok l) f refused passes = passes l refl
+gives_by P (Err r) f refused passes = refused r
 
 -- so a call on a store answers with P, and leaves the memories
 module _ {A : Type 0} (refuse : Refusal → A) (v : ℕ → Store → Verdict A) (M : Memories) (s : IsStore M) (P : A → Type 0)
@@ -110,7 +109,7 @@ module _ (S : Store) (l : ℕ) (c : Cursor) where
       (eqb c.given 0) (λ _ e. (λ _. inl (eqb→eq c.given 0 (subst T (sym e) tt)), λ _. refl))
       (λ _ e. (λ f. inr f, elim [ inl g ↦ absurd (no_true e (eq-eqb c.given 0 g)) | inr f ↦ f ])) refl)
 
-  found : (o : Option (List ℕ)) → Finds l (is_to_come S l c) o → c.ended ≡ 0 → the_first l (ToCome S l c) (as_member o)
+  found : (o : Option (List ℕ)) → Finds l (is_to_come S l c) o → c.ended ≡ 0 → the_first l (ToCome S l c) (Ok (as_member o))
   found none n e = λ s. no_true (n s.0 s.1) ((to_come_iff s.0).1 (s.2.1, s.2.2))
   found (some p) A e = (
     number_below A.packet,
@@ -121,13 +120,13 @@ module _ (S : Store) (l : ℕ) (c : Cursor) where
     }),
   )
 
-  first_to_come : the_first l (ToCome S l c) (as_member (next_member S l c))
-  first_to_come = by_test (λ b. eqb c.ended 0 ≡ b → the_first l (ToCome S l c) (as_member (pick b (first_packet l (is_to_come S l c)) none)))
+  first_to_come : the_first l (ToCome S l c) (Ok (as_member (next_member S l c)))
+  first_to_come = by_test (λ b. eqb c.ended 0 ≡ b → the_first l (ToCome S l c) (Ok (as_member (pick b (first_packet l (is_to_come S l c)) none))))
       (eqb c.ended 0) (λ _ e. found (first_packet l (is_to_come S l c)) (finds l (is_to_come S l c)) (eqb→eq c.ended 0 (subst T (sym e) tt)))
       (λ _ e s. no_true e (eq-eqb c.ended 0 s.2.0)) refl
 
 module _ {k : ℕ} {S : Store} (F : WellFormed k S) where
-  set_read_refused : (c : SetRead) (r : Refusal) → set_read_meaning k c S (Declined r)
+  set_read_refused : (c : SetRead) (r : Refusal) → set_read_meaning k c S (Err r)
   unfolding set_read_meaning
   set_read_refused (T.Get a) r = tt
   set_read_refused (T.Complement a) r = tt
@@ -135,13 +134,13 @@ module _ {k : ℕ} {S : Store} (F : WellFormed k S) where
   set_read_refused (T.Intersects a b) r = tt
   set_read_refused (T.Next c) r = tt
 
-  relation_read_refused : (c : RelationRead) (r : Refusal) → relation_read_meaning k c S (Declined r)
+  relation_read_refused : (c : RelationRead) (r : Refusal) → relation_read_meaning k c S (Err r)
   unfolding relation_read_meaning
   relation_read_refused (R.Get a) r = tt
   relation_read_refused (R.IsZero a) r = tt
   relation_read_refused (R.Relates a p q) r = tt
 
-  set_read_passes : (c : SetRead) (l : ℕ) → set_read_declines k c S ≡ Level l → set_read_meaning k c S (set_read_answer S l c)
+  set_read_passes : (c : SetRead) (l : ℕ) → set_read_declines k c S ≡ Ok l → set_read_meaning k c S (Ok (set_read_answer S l c))
   unfolding set_read_meaning complement run
   set_read_passes (T.Get a) l e =
       let q = also_passed _ _ _ e in
@@ -160,9 +159,9 @@ module _ {k : ℕ} {S : Store} (F : WellFormed k S) where
       (Iff.trans (one_iff _) (intersects_does l a b F t.0.low (own set S l a t.0.held) (own set S l b t.1.held)).after.post.means)
   set_read_passes (T.Next c) l e =
       let t = one_passed F set c.handle (also_passed _ _ _ e).0 in
-      subst (λ j. the_first j (ToCome S j c) (as_member (next_member S l c))) (sym t.level) (first_to_come S l c)
+      subst (λ j. the_first j (ToCome S j c) (Ok (as_member (next_member S l c)))) (sym t.level) (first_to_come S l c)
 
-  relation_read_passes : (c : RelationRead) (l : ℕ) → relation_read_declines k c S ≡ Level l → relation_read_meaning k c S (relation_read_answer S l c)
+  relation_read_passes : (c : RelationRead) (l : ℕ) → relation_read_declines k c S ≡ Ok l → relation_read_meaning k c S (Ok (relation_read_answer S l c))
   unfolding relation_read_meaning
   relation_read_passes (R.Get a) l e =
       let q = also_passed _ _ _ e in
@@ -188,9 +187,9 @@ module _ {k : ℕ} {S : Store} (F : WellFormed k S) where
 pub set_read_means : (c : SetRead) (M : Memories) → IsStore M
     → set_read_meaning (fields M) c (decode M) (step (set_read c) M).answer × ((step (set_read c) M).state ≡ M)
 set_read_means c M s = subst (λ t. set_read_meaning (fields M) c (decode M) t.answer × (t.state ≡ M)) (sym (set_read_steps c M))
-    (answer_has Declined (set_read_verdict c) M s (set_read_meaning (fields M) c (decode M)) (set_read_gives s.formed c))
+    (answer_has Err (set_read_verdict c) M s (set_read_meaning (fields M) c (decode M)) (set_read_gives s.formed c))
 
 pub relation_read_means : (c : RelationRead) (M : Memories) → IsStore M
     → relation_read_meaning (fields M) c (decode M) (step (relation_read c) M).answer × ((step (relation_read c) M).state ≡ M)
 relation_read_means c M s = subst (λ t. relation_read_meaning (fields M) c (decode M) t.answer × (t.state ≡ M)) (sym (relation_read_steps c M))
-    (answer_has Declined (relation_read_verdict c) M s (relation_read_meaning (fields M) c (decode M)) (relation_read_gives s.formed c))
+    (answer_has Err (relation_read_verdict c) M s (relation_read_meaning (fields M) c (decode M)) (relation_read_gives s.formed c))

@@ -13,14 +13,14 @@ use Rattle.model.proofs.Bools.{by_test, no_true}
 use Rattle.call_rules.specs.Answers.{refusal}
 use Rattle.call_rules.specs.Outcome.{Verdict, gives, runs, guard, unless_declined, as_handle, Outcome, outcome, map_answer, finishes}
 use Rattle.call_rules.specs.declared.Answer.{Answer}
-use Rattle.call_rules.specs.declared.Answer.TheVariants.{Declined}
-use Rattle.call_rules.specs.declared.Check.{Check}
-use Rattle.call_rules.specs.declared.Check.TheVariants.{Level, No}
+use Rattle.std.specs.Prelude.{Result, Ok, Err}
+use Rattle.call_rules.specs.declared.Refusal.{Refusal}
+use Rattle.call_rules.specs.Outcome.{Check}
 use Rattle.call_rules.specs.declared.Refusal.TheVariants.{OutOfRange, UsedUp}
 use Rattle.call_rules.proofs.Declining.{not_runs, declined_gives}
 use Rattle.policies.specs.Answers.{policy_refusal}
 use Rattle.policies.specs.Outcome.{refused}
-use Rattle.policies.specs.declared.PolicyAnswer.{PolicyAnswer}
+use Rattle.policies.specs.Answers.{PolicyAnswer}
 use Rattle.store.specs.Calls.{Call, new_store, set_call, set_read, relation_call, relation_read, image_call, filter_call, path_read}
 use Rattle.store.specs.ImageCalls.{image_declines, image_program, filter_declines, filter_program, path_declines, path_answer}
 use Rattle.store.specs.RelationCalls.{relation_declines, relation_program, relation_read_declines, relation_read_answer}
@@ -48,24 +48,24 @@ module _ {A X : Type 0} (fine : A → Bool) (six : A) (bad : fine six ≡ false)
       (λ _. record { yes = λ _. refl; no = λ e. absurd (no_true e (h p f refl (run p S))) })
       (λ _. record { yes = λ e. absurd (no_true bad e); no = λ _. refl })
 
-abbrev pub fine_answer : Answer → Bool
+abbrev pub fine_answer : Result Answer Refusal → Bool
 fine_answer a = eqb (refusal a) 0
 
 abbrev pub fine_text : PolicyAnswer → Bool
 fine_text a = eqb (policy_refusal a) 0
 
-pub runs_handle : (c : Check) (g : ℕ → Prog) → RunsFine fine_answer (unless_declined Declined c (λ l. runs (g l) as_handle))
+pub runs_handle : (c : Check) (g : ℕ → Prog) → RunsFine fine_answer (unless_declined Err c (λ l. runs (g l) as_handle))
 unfolding RunsFine
-runs_handle (Level l) g p f e R = subst (λ a. fine_answer a ≡ true) (ap (λ v. made_in v R) e) refl
-runs_handle (No r) g p f e R = absurd (not_runs e)
+runs_handle (Ok l) g p f e R = subst (λ a. fine_answer a ≡ true) (ap (λ v. made_in v R) e) refl
+runs_handle (Err r) g p f e R = absurd (not_runs e)
 
-runs_never : (c : Check) (g : ℕ → Answer) → RunsFine fine_answer (unless_declined Declined c (λ l. gives (g l)))
+runs_never : (c : Check) (g : ℕ → Answer) → RunsFine fine_answer (unless_declined Err c (λ l. gives (Ok (g l))))
 unfolding RunsFine
-runs_never c g p f e R = absurd (declined_gives Declined c g p f e)
+runs_never c g p f e R = absurd (declined_gives Err c (λ l. Ok (g l)) p f e)
 
 pub asked_fine : (c : Call) (P : Plain) → RunsFine fine_answer (asked c P).verdict
 unfolding asked
-asked_fine (new_store k) P = runs_handle (guard OutOfRange (leb k 32) (Level k)) new
+asked_fine (new_store k) P = runs_handle (guard OutOfRange (leb k 32) (Ok k)) new
 asked_fine (set_call c) P = runs_handle (set_declines P.width c P.lists) (λ l. set_program P.width l c)
 asked_fine (set_read c) P = runs_never (set_read_declines P.width c P.lists) (λ l. set_read_answer P.lists l c)
 asked_fine (relation_call c) P = runs_handle (relation_declines P.width c P.lists) (λ l. relation_program P.width l c)
@@ -80,16 +80,16 @@ text_fine t P p f e R = subst (λ a. fine_text a ≡ true) (sym ((builds_kept P.
 
 -- a verdict that runs nothing leaves what was there
 pub answers_stay : {X : Type 0} (m n : ℕ) (c : Check) (g : ℕ → Answer) (S : Store) (x : X) (put : Store → X)
-    → (finishes (Declined UsedUp) m n (unless_declined Declined c (λ l. gives (g l))) S x put).state ≡ x
+    → (finishes (Err UsedUp) m n (unless_declined Err c (λ l. gives (Ok (g l)))) S x put).state ≡ x
 unfolding finishes
-answers_stay m n (Level l) g S x put = refl
-answers_stay m n (No r) g S x put = refl
+answers_stay m n (Ok l) g S x put = refl
+answers_stay m n (Err r) g S x put = refl
 
 -- ANY CALL on the plain store, with m places for sets and n for relations
 module _ (m n : ℕ) where
   pub any_parts : (x : AnyCall) (P : Plain) → Parts (λ a. eqb (any_refusal a) 0) (plain_any_step m n x P) (unlimited_step x P) P
   unfolding plain_any_step unlimited_step plain_step plain_policy_step on_lists
-  any_parts (call c) P = let q = asked c P in let r = parts fine_answer (Declined UsedUp) refl m n q.lists P q.taken q.verdict (asked_fine c P) in
+  any_parts (call c) P = let q = asked c P in let r = parts fine_answer (Err UsedUp) refl m n q.lists P q.taken q.verdict (asked_fine c P) in
       record { yes = λ e. ap (map_answer answered) (r.yes e); no = r.no }
   any_parts (policy t) P = let q = asked_policy t P in let r = parts fine_text (refused UsedUp) refl m n q.lists P q.taken q.verdict (text_fine t P) in
       record { yes = λ e. ap (map_answer read) (r.yes e); no = r.no }

@@ -27,7 +27,8 @@ use Rattle.call_rules.specs.Added.{node_counts, added_by_new}
 use Rattle.call_rules.specs.Answers.{refusal}
 use Rattle.call_rules.specs.OnMemories.{set_places, rel_places, new_step}
 use Rattle.call_rules.specs.Outcome.{guard, also, of_one, of_pair, of_path, of_four, outcome, finishes}
-use Rattle.call_rules.specs.declared.Answer.TheVariants.{Handle, Declined}
+use Rattle.call_rules.specs.declared.Answer.TheVariants.{Handle}
+use Rattle.std.specs.Prelude.{Ok, Err}
 use Rattle.call_rules.specs.declared.Refusal.{Refusal}
 use Rattle.call_rules.specs.declared.Refusal.TheVariants.{OutOfRange, UsedUp}
 use Rattle.store.specs.Calls.{new_store, step}
@@ -120,7 +121,7 @@ is_enough k a b = leb k 32 && (leb (head rel) a && (leb (head set) b && (leb (3 
 -- a table that begins with an accepted `new`
 module _ {B : Type 0} (see : AnyReply → B) (k a b : ℕ) (t : List (AnyCall × B)) (enough : is_enough k a b ≡ true)
     (plain : RowsPlainly see k (places_for set b) (places_for rel a) t) where
-  accepted : (M : Memories) → length M.relations ≡ a → length M.sets ≡ b → (step (new_store k) M).answer ≡ Handle (top_of k)
+  accepted : (M : Memories) → length M.relations ≡ a → length M.sets ≡ b → (step (new_store k) M).answer ≡ Ok (Handle (top_of k))
   unfolding step
   accepted M ea eb =
       let u = and_T (leb k 32) _ (subst T (sym enough) tt) in
@@ -128,9 +129,9 @@ module _ {B : Type 0} (see : AnyReply → B) (k a b : ℕ) (t : List (AnyCall ×
       let w = and_T (leb (head set) b) _ v.1 in
       let x = and_T (leb (3 * k) (places_for rel a)) _ w.1 in
       ap (λ r. r.answer) (sym (fits_new k a b M ea eb (leb→le _ _ u.0) (leb→le _ _ v.0) (leb→le _ _ w.0) (leb→le _ _ x.0) (leb→le _ _ x.1)))
-      ∙ ap Handle (new_gives k)
+      ∙ ap (λ h. Ok (Handle h)) (new_gives k)
 
-  rows_begin : RowsRight see a b ((call (new_store k), see (answered (Handle (top_of k)), node_counts (3 * k) k)) ∷ t)
+  rows_begin : RowsRight see a b ((call (new_store k), see (answered (Ok (Handle (top_of k))), node_counts (3 * k) k)) ∷ t)
   unfolding in_turn any_step effect
   rows_begin M ea eb =
       let e = accepted M ea eb in
@@ -147,7 +148,7 @@ abbrev begins : (k a b : ℕ) (t : List Expected) → is_enough k a b ≡ true �
 begins = rows_begin (λ r. r.0)
 
 -- a `new` that is refused
-new_refused : (k a b : ℕ) (r : Refusal) → ((M : Memories) → length M.relations ≡ a → length M.sets ≡ b → outcome (Declined r) M ≡ new_step k M)
+new_refused : (k a b : ℕ) (r : Refusal) → ((M : Memories) → length M.relations ≡ a → length M.sets ≡ b → outcome (Err r) M ≡ new_step k M)
     → TableRight a b (refuses (new_store k) r ∷ [])
 unfolding in_turn any_step step
 new_refused k a b r f M ea eb = ap (λ u. answered u.answer ∷ []) (sym (f M ea eb))

@@ -10,7 +10,7 @@ use Rattle.store_check.specs.Memory.{Memories, memories, head, count}
 use Rattle.call_rules.specs.Added.{node_counts}
 use Rattle.call_rules.specs.declared.Answer.TheVariants as store
 use Rattle.policies.specs.Outcome.{policy_step}
-use Rattle.policies.specs.declared.PolicyAnswer.TheVariants.{Handle}
+use Rattle.std.specs.Prelude.{Ok}
 use Rattle.store.specs.Calls.{new_store, set_call, step}
 use Rattle.store.specs.declared.set_calls.SetCall.TheVariants.{Mk}
 use Rattle.theorems.specs.Added.{its_answer, its_added}
@@ -33,34 +33,34 @@ after i = (steps all_calls (take i calls) lent).state
 
 -- the reply of call i
 abbrev reply : ℕ → List AnyReply → AnyReply
-reply i rs = get_or rs i (read (Handle 0), node_counts 0 0)
+reply i rs = get_or rs i (read (Ok 0), node_counts 0 0)
 
-new_reply : its_answer (call (new_store 1)) lent ≡ answered (store.Handle 4)
+new_reply : its_answer (call (new_store 1)) lent ≡ answered (Ok (store.Handle 4))
 unfolding in_turn
 new_reply = ap (λ rs. (reply 0 rs).0) (worked.added_nodes lent refl refl)
 
-text_reply : (reply_step (policy either_value) (after 1)).answer ≡ (read (Handle 3), node_counts 2 0)
+text_reply : (reply_step (policy either_value) (after 1)).answer ≡ (read (Ok 3), node_counts 2 0)
 unfolding in_turn
 text_reply = ap (reply 1) (worked.added_nodes lent refl refl)
 
-mk_reply : (reply_step (call (set_call (Mk 1 0))) (after 6)).answer ≡ (answered (store.Handle 5), node_counts 0 0)
+mk_reply : (reply_step (call (set_call (Mk 1 0))) (after 6)).answer ≡ (answered (Ok (store.Handle 5)), node_counts 0 0)
 unfolding in_turn
 mk_reply = ap (reply 6) (worked.added_nodes lent refl refl)
 
 -- EVERY `MK` APPENDS
-pub not_every_mk : ¬ ((M : Memories) (x0 x1 h : ℕ) → (step (set_call (Mk x0 x1)) M).answer ≡ store.Handle h
+pub not_every_mk : ¬ ((M : Memories) (x0 x1 h : ℕ) → (step (set_call (Mk x0 x1)) M).answer ≡ Ok (store.Handle h)
     → (its_added (call (set_call (Mk x0 x1))) M).sets ≡ 1)
 unfolding any_step
 not_every_mk f =
-    let e : answered (step (set_call (Mk 1 0)) (after 6)).answer ≡ answered (store.Handle 5) = ap (λ r. r.0) mk_reply in
+    let e : answered (step (set_call (Mk 1 0)) (after 6)).answer ≡ answered (Ok (store.Handle 5)) = ap (λ r. r.0) mk_reply in
     let z : ⊥ = omega (arith, f (after 6) 1 0 5 (cc e), ap (λ r. r.1.sets) mk_reply) in z
 
 -- A HANDLE THAT WAS HELD ADDS NOTHING
-pub not_by_handle : ¬ ((t : List ℕ) (M : Memories) (h : ℕ) → (policy_step t M).answer ≡ Handle h → h < count rel M.relations + 2
+pub not_by_handle : ¬ ((t : List ℕ) (M : Memories) (h : ℕ) → (policy_step t M).answer ≡ Ok h → h < count rel M.relations + 2
     → its_added (policy t) M ≡ node_counts 0 0)
 unfolding any_step in_turn
 not_by_handle f =
-    let e : read (policy_step either_value (after 1)).answer ≡ read (Handle 3) = ap (λ r. r.0) text_reply in
-    let n : answered (step (new_store 1) lent).answer ≡ answered (store.Handle 4) = new_reply in
+    let e : read (policy_step either_value (after 1)).answer ≡ read (Ok 3) = ap (λ r. r.0) text_reply in
+    let n : answered (step (new_store 1) lent).answer ≡ answered (Ok (store.Handle 4)) = new_reply in
     let old : 3 < count rel (after 1).relations + 2 = omega (arith, (new_right 1 lent 4 (cc n)).relations) in
     let z : ⊥ = omega (arith, ap (λ n. n.relations) (f either_value (after 1) 3 (cc e) old), ap (λ r. r.1.relations) text_reply) in z

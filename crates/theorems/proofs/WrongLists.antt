@@ -21,7 +21,9 @@ use Rattle.theorems.specs.PlainStore.{Plain, plain_store, asked, on_lists, plain
 use Rattle.store_check.specs.Memory.{Memories, memories, head, decode}
 use Rattle.call_rules.specs.Outcome.{Verdict, runs, as_handle, guard, outcome, finishes}
 use Rattle.call_rules.specs.declared.Answer.{Answer}
-use Rattle.call_rules.specs.declared.Answer.TheVariants.{Handle, Declined}
+use Rattle.std.specs.Prelude.{Result, Ok, Err}
+use Rattle.call_rules.specs.declared.Refusal.{Refusal}
+use Rattle.call_rules.specs.declared.Answer.TheVariants.{Handle}
 use Rattle.call_rules.specs.declared.Refusal.TheVariants.{UsedUp}
 use Rattle.store.specs.declared.set_calls.SetCall.TheVariants.{Test}
 use Rattle.theorems.proofs.Lists.{list_right}
@@ -29,18 +31,18 @@ use Rattle.theorems.proofs.Matching.{matches_space}
 use Rattle.theorems.proofs.OneCall.{not_handle}
 
 -- 01, "Plausible and wrong": "Keeping nodes of a call that ended in 6". The lists with that call's nodes match no memories
-pub kept_nodes : {M₀ M : Memories} (P : Plain) (v : ℕ → Store → Verdict Answer) (p : Prog) → v P.width P.lists ≡ runs p as_handle
-    → (on_lists Declined (set_places M₀) (rel_places M₀) v P).answer ≡ Declined UsedUp → ¬ Matches M₀ M (plain_store P.width (run p P.lists).store)
+pub kept_nodes : {M₀ M : Memories} (P : Plain) (v : ℕ → Store → Verdict (Result Answer Refusal)) (p : Prog) → v P.width P.lists ≡ runs p as_handle
+    → (on_lists Err (set_places M₀) (rel_places M₀) v P).answer ≡ Err UsedUp → ¬ Matches M₀ M (plain_store P.width (run p P.lists).store)
 unfolding on_lists finishes
 kept_nodes {M₀} {M} P v p e q A =
     let m = set_places M₀ in
     let n = rel_places M₀ in
     let S = (run p P.lists).store in
     let t : T (fits_places m n S) = (fits_places_iff m n S).1 ((matches_space A).within set, (matches_space A).within rel) in
-    by_test (λ b. T b → (pick b (outcome (Handle (run p P.lists).value) (plain_store P.width S)) (outcome (Declined UsedUp) P)).answer ≡ Declined
+    by_test (λ b. T b → (pick b (outcome (Ok (Handle (run p P.lists).value)) (plain_store P.width S)) (outcome (Err UsedUp) P)).answer ≡ Err
     UsedUp → ⊥)
     (fits_places m n S) (λ _ _ q. not_handle (sym q)) (λ _ t q. t) t
-    (ap (λ u. (finishes (Declined UsedUp) m n u P.lists P (plain_store P.width)).answer) (sym e) ∙ q)
+    (ap (λ u. (finishes (Err UsedUp) m n u P.lists P (plain_store P.width)).answer) (sym e) ∙ q)
 
 -- LASTING HANDLES. In a store of one field, a test of it and then another `new`: the test's handle 4 is held, and then not;
 -- three places for relations and two for sets suffice
@@ -53,7 +55,7 @@ tested = set_call (Test 0 1) ∷ []
 abbrev renewed : List Call
 renewed = new_store 1 ∷ []
 
-accepted : (step (new_store 1) lent).answer ≡ Handle 4
+accepted : (step (new_store 1) lent).answer ≡ Ok (Handle 4)
 unfolding step new_step finishes guard run new constant identity_at_depth get place having mk_store mk_handle
 accepted = refl
 

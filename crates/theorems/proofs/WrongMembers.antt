@@ -16,7 +16,9 @@ use Rattle.model.specs.Store.{Store, get}
 use Rattle.model.specs.WellFormed.{level_of}
 use Rattle.call_rules.specs.Outcome.{Verdict, gives, guard, also, of_one}
 use Rattle.call_rules.specs.declared.Answer.{Answer}
-use Rattle.call_rules.specs.declared.Answer.TheVariants.{Declined, Nothing}
+use Rattle.std.specs.Prelude.{Result, Ok, Err}
+use Rattle.call_rules.specs.declared.Refusal.{Refusal}
+use Rattle.call_rules.specs.declared.Answer.TheVariants.{Nothing}
 use Rattle.call_rules.specs.declared.Refusal.TheVariants.{OutOfRange}
 use Rattle.store.specs.Cursors.{next_member, moved}
 use Rattle.store.specs.SetCalls.{set_read_verdict}
@@ -47,12 +49,13 @@ last_again h =
     let z : ◌≡◌ {A = ℕ} 0 1 = cc in omega arith
 
 -- THE END BEFORE 5: at level 0 the packet 1 is declined, also where the end was met
-pub end_first : ¬ ((k : ℕ) (S : Store) (c : Cursor) → ¬ (c.ended ≡ 0) → set_read_verdict (Next c) k S ≡ gives Nothing)
+pub end_first : ¬ ((k : ℕ) (S : Store) (c : Cursor) → ¬ (c.ended ≡ 0) → set_read_verdict (Next c) k S ≡ gives (Ok Nothing))
 unfolding guard also of_one level_of
 end_first h =
-    let e : ◌≡◌ {A = Verdict Answer} (gives (Declined OutOfRange)) (gives Nothing) = h 0 blank (cursor 1 1 1 1) (λ e. let z : ⊥ = omega arith in z) in
+    let e : ◌≡◌ {A = Verdict (Result Answer Refusal)} (gives (Err OutOfRange)) (gives (Ok Nothing))
+    = h 0 blank (cursor 1 1 1 1) (λ e. let z : ⊥ = omega arith in z) in
     let z : ◌≡◌ {A = ℕ} 0 1 = cc in omega arith
 
 -- THE MARK ANEW: a record that has the end met stays as it is
-pub mark_anew : ¬ ((c : Cursor) → (moved Nothing c).ended ≡ 1)
+pub mark_anew : ¬ ((c : Cursor) → (moved (Ok Nothing) c).ended ≡ 1)
 mark_anew h = let e : ◌≡◌ {A = ℕ} 7 1 = h (cursor 0 0 0 7) in omega arith

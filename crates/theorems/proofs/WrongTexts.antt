@@ -28,7 +28,7 @@ use Rattle.theorems.specs.AllCalls.{call, policy, answered, read, any_step, text
 use Rattle.theorems.specs.EveryHistory.{AcceptedIn}
 use Rattle.theorems.specs.Histories.{Made, LentInTurn, NoneRenews, History}
 use Rattle.policies.specs.Outcome.{policy_step}
-use Rattle.policies.specs.declared.PolicyAnswer.TheVariants.{Handle, Declined}
+use Rattle.std.specs.Prelude.{Ok, Err}
 use Rattle.policies.specs.declared.PolicyRefusal.{PolicyRefusal}
 use Rattle.policy_text.proofs.Complete.{unambiguous}
 use Rattle.policy_text.proofs.XLaws.{x_lawful}
@@ -41,7 +41,7 @@ use Rattle.theorems.proofs.KeptTexts.{not_handle}
 abbrev lent : Memories
 lent = memories (replicate (head rel + arity rel * 3) 0) (replicate (head set + arity set * 1) 0)
 
-accepted : (step (new_store 1) lent).answer ≡ store.Handle 4
+accepted : (step (new_store 1) lent).answer ≡ Ok (store.Handle 4)
 unfolding step new_step finishes guard run new constant identity_at_depth get place having mk_store mk_handle
 accepted = refl
 
@@ -73,7 +73,7 @@ begun = made (call (new_store 1)) lent []
 abbrev new_left : Memories
 new_left = begun.after
 
-new_accepted : begun.answer ≡ answered (store.Handle 4)
+new_accepted : begun.answer ≡ answered (Ok (store.Handle 4))
 unfolding any_step
 new_accepted = ap answered accepted
 
@@ -100,18 +100,18 @@ alone t = record {
   none_renews = renews_not t;
 }
 
-zero_accepted : (called zero_text).answer ≡ read (Handle 2)
+zero_accepted : (called zero_text).answer ≡ read (Ok 2)
 unfolding in_turn run new constant identity_at_depth get place having mk_store mk_handle policy_program zero_keeps
 zero_accepted = (every_history (alone zero_text)).refused zero_text [] [] (called zero_text) refl refl zero_keeps
 
-one_accepted : (called one_text).answer ≡ read (Handle 3)
+one_accepted : (called one_text).answer ≡ read (Ok 3)
 unfolding in_turn run new constant identity_at_depth get place having mk_store mk_handle policy_program one_keeps
 one_accepted = (every_history (alone one_text)).refused one_text [] [] (called one_text) refl refl one_keeps
 
 -- EVERY TEXT REFUSED, or every text on the store as `new` left it
-pub not_all_refused : ¬ ((t : List ℕ) → (r : PolicyRefusal) × ((policy_step t new_left).answer ≡ Declined r))
+pub not_all_refused : ¬ ((t : List ℕ) → (r : PolicyRefusal) × ((policy_step t new_left).answer ≡ Err r))
 unfolding any_step
-not_all_refused f = let r = f zero_text in let e : (policy_step zero_text new_left).answer ≡ Handle 2 = cc zero_accepted in not_handle (sym r.1 ∙ e)
+not_all_refused f = let r = f zero_text in let e : (policy_step zero_text new_left).answer ≡ Ok 2 = cc zero_accepted in not_handle (sym r.1 ∙ e)
 
 -- ONE HANDLE for all texts
 pub not_one_handle : (h : ℕ) → ¬ ((H : History) (t : List ℕ) (g : ℕ) → AcceptedIn H.calls t g → g ≡ h)

@@ -1,6 +1,6 @@
 -- All 45 calls as one type, the outcome of each on two memories and on the plain store, with the nodes that it added, and what the text of a
 -- policy relates; 01, "A list of calls, and its count", and 02, M-101.
-use Rattle.std.specs.Prelude.{List, ℕ, ◌≤◌, length}
+use Rattle.std.specs.Prelude.{List, ℕ, ◌≤◌, length, Result}
 use Rattle.model.specs.Meaning.{Rel}
 use Rattle.model.specs.Policies.{Policy, meaning}
 use Rattle.store_check.specs.Memory.{Memories}
@@ -11,13 +11,14 @@ use Rattle.call_rules.specs.Answers.{refusal}
 use Rattle.call_rules.specs.Outcome.{Outcome, outcome, map_answer}
 use Rattle.theorems.specs.PlainStore.{Plain, lengths, plain_step, plain_policy_step}
 use Rattle.call_rules.specs.declared.Answer.{Answer}
+use Rattle.call_rules.specs.declared.Refusal.{Refusal}
 use Rattle.call_rules.specs.declared.added.NodeCounts.{NodeCounts}
 use Rattle.policies.specs.Answers.{policy_refusal}
 use Rattle.policy_text.specs.XForms.{x_forms}
 use Rattle.policy_text.specs.Answers.{KeepsRules}
 use Rattle.policy_text.specs.Grammar.{Sum}
 use Rattle.policies.specs.Outcome.{policy_step, most_bytes}
-use Rattle.policies.specs.declared.PolicyAnswer.{PolicyAnswer}
+use Rattle.policies.specs.Answers.{PolicyAnswer}
 
 -- ALL 45 CALLS: those of `store`, and policies of any bytes
 pub data AnyCall : Type 0 where
@@ -25,7 +26,7 @@ pub data AnyCall : Type 0 where
   policy : List ℕ → AnyCall
 
 pub data AnyAnswer : Type 0 where
-  answered : Answer → AnyAnswer
+  answered : Result Answer Refusal → AnyAnswer
   read : PolicyAnswer → AnyAnswer
 
 -- the refusal's number, or 0

@@ -1,5 +1,5 @@
 -- DEMAND 3: what is claimed of every history, and of the texts that were accepted in it; 01, "A list of calls, and its count".
-use Rattle.std.specs.Prelude.{◌≡◌, List, ◌∷◌, ◌++◌, map, ◌↔◌, ℕ}
+use Rattle.std.specs.Prelude.{◌≡◌, List, ◌∷◌, ◌++◌, map, ◌↔◌, ℕ, Ok, Err}
 use Rattle.model.specs.Meaning.{Relates, Same}
 use Rattle.model.specs.Places.{fits_places}
 use Rattle.model.specs.Policies.{Policy, policy_program}
@@ -8,7 +8,6 @@ use Rattle.model.specs.Store.{pick}
 use Rattle.store_check.specs.Memory.{Memories, fields, decode}
 use Rattle.call_rules.specs.OnMemories.{set_places, rel_places}
 use Rattle.call_rules.specs.declared.Refusal.TheVariants.{UsedUp}
-use Rattle.policies.specs.declared.PolicyAnswer.TheVariants.{Handle, Declined}
 use Rattle.policies.specs.declared.PolicyRefusal.TheVariants.{Store}
 use Rattle.theorems.specs.AllCalls.{AnyCall, AnyReply, policy, read, all_calls, text_relates, WithinRules, policy_of}
 use Rattle.theorems.specs.Histories.{Made, History, left_after}
@@ -29,7 +28,7 @@ pub record AcceptedIn (cs : List Made) (t : List ℕ) (h : ℕ) : Type 0 where
   pub later : List Made
   pub is : cs ≡ before ++ (it ∷ later)
   pub text : it.what ≡ policy t
-  pub handle : it.answer ≡ read (Handle h)
+  pub handle : it.answer ≡ read (Ok h)
 
 module _ (H : History) where
   -- the memories lent to `new`, and those after the first of the calls that followed it
@@ -75,4 +74,4 @@ module _ (H : History) where
     pub refused : (t : List ℕ) (before later : List Made) (it : Made) → H.calls ≡ before ++ (it ∷ later) → it.what ≡ policy t
         → (r : WithinRules H.width t)
         → it.answer ≡ read (pick (fits_places (set_places lent) (rel_places lent) (plain_run before (policy_of r)).store)
-        (Handle (plain_run before (policy_of r)).value) (Declined (Store UsedUp)))
+        (Ok (plain_run before (policy_of r)).value) (Err (Store UsedUp)))

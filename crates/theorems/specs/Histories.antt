@@ -1,15 +1,16 @@
 -- HISTORIES: the calls that were made on two memories since a `new`, each with any arguments, any text and any working memory;
 -- 01, "A list of calls, and its count".
-use Rattle.std.specs.Prelude.{◌≡◌, List, [], ◌∷◌, ℕ}
+use Rattle.std.specs.Prelude.{◌≡◌, List, [], ◌∷◌, ℕ, Result, Ok}
 use Rattle.store_check.specs.Memory.{Memories}
 use Rattle.store.specs.Calls.{Call, new_store, step}
 use Rattle.call_rules.specs.Added.{node_counts, held_in, new_counted}
 use Rattle.call_rules.specs.Promise.{Meets, Replies}
 use Rattle.call_rules.specs.declared.Answer.{Answer}
+use Rattle.call_rules.specs.declared.Refusal.{Refusal}
 use Rattle.call_rules.specs.declared.Answer.TheVariants.{Handle}
 use Rattle.call_rules.specs.declared.added.NodeCounts.{NodeCounts}
 use Rattle.policies.specs.Outcome.{policy_step}
-use Rattle.policies.specs.declared.PolicyAnswer.{PolicyAnswer}
+use Rattle.policies.specs.Answers.{PolicyAnswer}
 use Rattle.theorems.specs.AllCalls.{AnyCall, call, policy, AnyAnswer, answered, read, adds, reads, effect, AnyReply}
 use Rattle.theorems.specs.Lists.{Refused}
 
@@ -18,11 +19,11 @@ use Rattle.theorems.specs.Lists.{Refused}
 -- promise `Replies` of `step`, and so does `policies::policy` of `policy_step`. `new_store::new` promises `Meets` of `new_step`, which is
 -- `step` of `new`, with the nodes that the new store holds
 pub data Promised : AnyCall → Memories → Memories → List ℕ → List ℕ → AnyReply → Type 0 where
-  of_new : {k : ℕ} {M M' : Memories} {w w' : List ℕ} {a : Answer} {n : NodeCounts} → Meets (new_counted held_in (step (new_store k) M)) M' w w' (a, n)
-      → Promised (call (new_store k)) M M' w w' (answered a, n)
-  of_adding : {c : Call} {M M' : Memories} {w w' : List ℕ} {a : Answer} {n : NodeCounts} → effect (call c) ≡ adds → Replies (step c) M M' w w' a n
-      → Promised (call c) M M' w w' (answered a, n)
-  of_reading : {c : Call} {M M' : Memories} {w w' : List ℕ} {a : Answer} → effect (call c) ≡ reads → Meets (step c M) M' w w' a
+  of_new : {k : ℕ} {M M' : Memories} {w w' : List ℕ} {a : Result Answer Refusal} {n : NodeCounts}
+      → Meets (new_counted held_in (step (new_store k) M)) M' w w' (a, n) → Promised (call (new_store k)) M M' w w' (answered a, n)
+  of_adding : {c : Call} {M M' : Memories} {w w' : List ℕ} {a : Result Answer Refusal} {n : NodeCounts}
+      → effect (call c) ≡ adds → Replies (step c) M M' w w' a n → Promised (call c) M M' w w' (answered a, n)
+  of_reading : {c : Call} {M M' : Memories} {w w' : List ℕ} {a : Result Answer Refusal} → effect (call c) ≡ reads → Meets (step c M) M' w w' a
       → Promised (call c) M M' w w' (answered a, node_counts 0 0)
   of_policy : {t : List ℕ} {M M' : Memories} {w w' : List ℕ} {a : PolicyAnswer} {n : NodeCounts} → Replies (policy_step t) M M' w w' a n
       → Promised (policy t) M M' w w' (read a, n)
@@ -51,7 +52,7 @@ left_after M (c ∷ cs) = left_after c.after cs
 -- 01: among the calls is "any `new` that is refused"
 unfoldable pub NoneRenews : List Made → Type 0
 NoneRenews [] = Unit {0}
-NoneRenews (c ∷ cs) = ((k : ℕ) (a : Answer) → c.what ≡ call (new_store k) → c.answer ≡ answered a → Refused a) × NoneRenews cs
+NoneRenews (c ∷ cs) = ((k : ℕ) (a : Result Answer Refusal) → c.what ≡ call (new_store k) → c.answer ≡ answered a → Refused a) × NoneRenews cs
 
 -- 01: "Demand 3's list starts from the two memories as an accepted `new` left them; it may be empty."
 pub record History : Type 0 where
@@ -59,7 +60,7 @@ pub record History : Type 0 where
   pub new : Made
   pub is_new : new.what ≡ call (new_store width)
   pub top : ℕ
-  pub accepted : new.answer ≡ answered (Handle top)
+  pub accepted : new.answer ≡ answered (Ok (Handle top))
   pub calls : List Made
   pub in_turn : LentInTurn new.after calls
   pub none_renews : NoneRenews calls

@@ -1,10 +1,10 @@
 -- LISTS OF JOBS: what 02, M-106, says of them, over any state and any way to make a call, so of memories and of the plain store.
-use Rattle.std.specs.Prelude.{◌≡◌, List, [], ◌∷◌, ◌++◌, map, Bool, true, false, ℕ, suc, ◌+◌, ◌-◌, min, ◌≤◌, ◌<◌, length, get_or, take}
+use Rattle.std.specs.Prelude.{◌≡◌, List, [], ◌∷◌, ◌++◌, map, Bool, true, false, ℕ, suc, ◌+◌, ◌-◌, min, ◌≤◌, ◌<◌, length, get_or, take, Result, Ok, Err}
 use Rattle.model.specs.Store.{pick}
 use Rattle.store_check.specs.Memory.{Memories}
 use Rattle.call_rules.specs.Outcome.{Outcome, outcome}
 use Rattle.call_rules.specs.declared.Answer.{Answer}
-use Rattle.call_rules.specs.declared.Answer.TheVariants.{Handle, Truth, Declined}
+use Rattle.call_rules.specs.declared.Answer.TheVariants.{Handle, Truth}
 use Rattle.call_rules.specs.declared.Refusal.{Refusal}
 use Rattle.store.specs.Calls.{Call, step}
 use Rattle.jobs.specs.Jobs.{is_waiting, refused, answer_kind, answer_value, with_answer, named, Asks, calls, refuses, asks, Progress, run_jobs}
@@ -26,7 +26,7 @@ abbrev pub asks_after : List Job → Job → Asks
 asks_after done j = asks j (named done j j.a) (named done j j.b) (named done j j.c)
 
 -- ONE CALL with the limit n on the jobs js and the state x
-module _ {X : Type 0} (act : Call → X → Outcome Answer X) (js : List Job) (n : ℕ) (x : X) where
+module _ {X : Type 0} (act : Call → X → Outcome (Result Answer Refusal) X) (js : List Job) (n : ℕ) (x : X) where
   abbrev pub jobs_after : List Job
   jobs_after = (jobs_on act js n x).answer.jobs
 
@@ -41,7 +41,7 @@ module _ {X : Type 0} (act : Call → X → Outcome Answer X) (js : List Job) (n
     pub beyond : (i : ℕ) (d : Job) → n ≤ waiting (take i js) → get_or jobs_after i d ≡ get_or js i d
 
 -- EACH JOB that is run. The jobs `before` it are run first, with the limit n; `so_far` has them, how many more may be run, and the state then
-module _ {X : Type 0} (act : Call → X → Outcome Answer X) (n : ℕ) (before later : List Job) (j : Job) (x : X) where
+module _ {X : Type 0} (act : Call → X → Outcome (Result Answer Refusal) X) (n : ℕ) (before later : List Job) (j : Job) (x : X) where
   abbrev pub so_far : Progress X
   so_far = run_jobs act n [] before x
 
@@ -64,10 +64,10 @@ module _ {X : Type 0} (act : Call → X → Outcome Answer X) (n : ℕ) (before 
     pub is_refused : is_waiting j ≡ true → 0 < so_far.left → (v : ℕ) → its_asks ≡ refuses v → RunTo (with_answer j refused v) so_far.state
 
 -- "answering a handle, yes or no"
-pub data HandleOrTruth : Answer → Type 0 where
-  a_handle : (h : ℕ) → HandleOrTruth (Handle h)
-  a_truth : (b : Bool) → HandleOrTruth (Truth b)
-  a_refusal : (r : Refusal) → HandleOrTruth (Declined r)
+pub data HandleOrTruth : Result Answer Refusal → Type 0 where
+  a_handle : (h : ℕ) → HandleOrTruth (Ok (Handle h))
+  a_truth : (b : Bool) → HandleOrTruth (Ok (Truth b))
+  a_refusal : (r : Refusal) → HandleOrTruth (Err r)
 
 -- so does every call that a job asks for, on any memories, where it is not refused
 abbrev pub AnswersPlainly : Type 0

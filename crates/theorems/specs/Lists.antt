@@ -1,5 +1,5 @@
 -- A list of calls on the two memories, and beside it on the plain store: document 01, "A list of calls, and its count".
-use Rattle.std.specs.Prelude.{◌≡◌, List, [], ◌∷◌, ◌++◌, ℕ, length}
+use Rattle.std.specs.Prelude.{◌≡◌, List, [], ◌∷◌, ◌++◌, ℕ, length, Result, Ok, Err}
 use Rattle.model.specs.Images.{blank, new}
 use Rattle.model.specs.Meaning.{Lasts}
 use Rattle.model.specs.Programs.{run}
@@ -12,7 +12,7 @@ use Rattle.call_rules.specs.OnMemories.{set_places, rel_places}
 use Rattle.call_rules.specs.Outcome.{Outcome}
 use Rattle.theorems.specs.PlainStore.{Plain, plain_step, begun}
 use Rattle.call_rules.specs.declared.Answer.{Answer}
-use Rattle.call_rules.specs.declared.Answer.TheVariants.{Handle, Declined}
+use Rattle.call_rules.specs.declared.Answer.TheVariants.{Handle}
 use Rattle.call_rules.specs.declared.Refusal.{Refusal}
 
 -- LISTS of calls of any type C on any state X: the answers in order, and what the last call leaves;
@@ -44,15 +44,15 @@ abbrev pub left_by : {C A X : Type 0} → (C → X → Outcome A X) → C → X 
 left_by f c x = (f c x).state
 
 -- 01, demand 3's list: "any `new` that is refused"
-pub record Refused (a : Answer) : Type 0 where
+pub record Refused (a : Result Answer Refusal) : Type 0 where
   pub why : Refusal
-  pub is : a ≡ Declined why
+  pub is : a ≡ Err why
 
 abbrev pub NewRefused : Call → Memories → Type 0
 NewRefused c M = (k : ℕ) → c ≡ new_store k → Refused (step c M).answer
 
 -- the calls of `store`
-abbrev pub store_calls : Calling Call Answer
+abbrev pub store_calls : Calling Call (Result Answer Refusal)
 store_calls = record { on_memories = step; on_plain = plain_step; Continues = NewRefused }
 
 -- WHAT IS CLAIMED. M, slices as long as M₀, are a store and hold the plain store P; all else in them is as in M₀:
@@ -105,7 +105,7 @@ module _ {C A : Type 0} (Z : Calling C A) where
 
   -- what is claimed of it, where that `new` was accepted
   pub record ListRight (k : ℕ) (M₀ : Memories) (cs : List C) : Type 0 where
-    pub new_answer : (step (new_store k) M₀).answer ≡ Handle (run (new k) blank).value
+    pub new_answer : (step (new_store k) M₀).answer ≡ Ok (Handle (run (new k) blank).value)
     -- the same answers, one by one; the memories are a store with the same lists, and untouched where no place is
     pub answers : (after_new k M₀ cs).answers ≡ (on_plain_store k M₀ cs).answers
     pub matches : Matches M₀ (after_new k M₀ cs).state (on_plain_store k M₀ cs).state

@@ -1,5 +1,5 @@
 -- What calls of `next` give in turn, each with the record as the call before left it: 02, M-103.
-use Rattle.std.specs.Prelude.{◌≡◌, List, [], ◌∷◌, ◌++◌, true, ℕ, zero, suc, eqb, length, replicate}
+use Rattle.std.specs.Prelude.{◌≡◌, List, [], ◌∷◌, ◌++◌, true, ℕ, zero, suc, eqb, length, replicate, Result, Ok}
 use Rattle.model.specs.FieldOrder.{is_before}
 use Rattle.model.specs.Members.{passing, members, InOrder}
 use Rattle.model.specs.Packets.{packet, number, contains}
@@ -7,6 +7,7 @@ use Rattle.model.specs.Store.{set, Store, pick}
 use Rattle.model.specs.WellFormed.{Held}
 use Rattle.store_check.specs.Memory.{Memories, decode}
 use Rattle.call_rules.specs.declared.Answer.{Answer}
+use Rattle.call_rules.specs.declared.Refusal.{Refusal}
 use Rattle.call_rules.specs.declared.Answer.TheVariants.{Nothing, Member}
 use Rattle.store.specs.Calls.{set_read, step}
 use Rattle.store.specs.Cursors.{does_last_fit, is_to_come, with_last, at_end, moved}
@@ -17,11 +18,11 @@ use Rattle.theorems.specs.Histories.{Made, History}
 use Rattle.theorems.specs.Lists.{Listed, in_turn}
 
 -- the answer of `next` on the memories M, with the record c
-abbrev pub next_answer : Memories → Cursor → Answer
+abbrev pub next_answer : Memories → Cursor → Result Answer Refusal
 next_answer M c = (step (set_read (Next c)) M).answer
 
 -- CALLS OF `next` IN TURN, the first on the first of these memories and so on: the answers, and the record as the last call leaves it
-abbrev pub nexts : List Memories → Cursor → Listed Answer Cursor
+abbrev pub nexts : List Memories → Cursor → Listed (Result Answer Refusal) Cursor
 nexts Ms c = in_turn next_answer (λ M c. moved (next_answer M c) c) Ms c
 
 -- the members still to come, in field order, of the set that the record names, of level l in S; none where the end was met
@@ -29,11 +30,11 @@ abbrev pub to_come : Store → ℕ → Cursor → List (List ℕ)
 to_come S l c = pick (eqb c.ended 0) (passing l (is_to_come S l c)) []
 
 -- n calls where the packets ps are to come: "each member exactly once, then 'end', as at any call whose record has the end met"
-unfoldable pub given_in_turn : ℕ → List (List ℕ) → Cursor → Listed Answer Cursor
+unfoldable pub given_in_turn : ℕ → List (List ℕ) → Cursor → Listed (Result Answer Refusal) Cursor
 given_in_turn zero ps c = record { answers = []; state = c }
-given_in_turn (suc n) [] c = record { answers = replicate (suc n) Nothing; state = at_end c }
+given_in_turn (suc n) [] c = record { answers = replicate (suc n) (Ok Nothing); state = at_end c }
 given_in_turn (suc n) (p ∷ ps) c = (let r = given_in_turn n ps (with_last c (number p)) in
-    record { answers = Member (number p) ∷ r.answers; state = r.state })
+    record { answers = Ok (Member (number p)) ∷ r.answers; state = r.state })
 
 -- the record's last packet, where one was given, has a number of level l
 abbrev pub LastFits : ℕ → Cursor → Type 0

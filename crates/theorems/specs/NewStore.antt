@@ -1,5 +1,5 @@
 -- What an accepted `new` leaves, on any memories: document 01, "`new(k)` holds 3k relation nodes and k set nodes, the other places zeroed".
-use Rattle.std.specs.Prelude.{◌≡◌, ℕ, ◌*◌}
+use Rattle.std.specs.Prelude.{◌≡◌, ℕ, ◌*◌, Ok}
 use Rattle.model.specs.Meaning.{Den, Relates}
 use Rattle.model.specs.Store.{set, rel}
 use Rattle.store_check.specs.Memory.{Memories, count, fields, decode, encode}
@@ -13,7 +13,7 @@ use Rattle.store.specs.declared.set_calls.SetCall.TheVariants as T
 -- what the call c gives is in the memories M already: it leaves them as they are, and its handle has P
 pub record There (M : Memories) (c : Call) (P : ℕ → Type 0) : Type 0 where
   pub handle : ℕ
-  pub is : step c M ≡ outcome (Handle handle) M
+  pub is : step c M ≡ outcome (Ok (Handle handle)) M
   pub means : P handle
 
 -- WHAT IS CLAIMED of `new k` on the memories M, where it was accepted with the handle h and left the memories M'
@@ -26,7 +26,7 @@ pub record NewRight (k : ℕ) (M M' : Memories) (h : ℕ) : Type 0 where
   pub written : M' ≡ encode k (decode M') M
   -- h is the full relation of level k, and what `top` gives
   pub full : Relates k (λ p q. Unit {0}) (decode M') h
-  pub top : step (relation_call R.Top) M' ≡ outcome (Handle h) M'
+  pub top : step (relation_call R.Top) M' ≡ outcome (Ok (Handle h)) M'
   -- the empty relation and the identity, the empty set and the full set of level k are there
   pub zero : There M' (relation_call R.Zero) (Relates k (λ p q. ⊥) (decode M'))
   pub one : There M' (relation_call R.One) (Relates k (λ p q. p ≡ q) (decode M'))

@@ -1,5 +1,5 @@
 -- The plain store beside the memories: document 01, "A list of calls, and its count".
-use Rattle.std.specs.Prelude.{List, ℕ, leb, length}
+use Rattle.std.specs.Prelude.{List, ℕ, leb, length, Result, Ok, Err}
 use Rattle.model.specs.Images.{blank, new}
 use Rattle.model.specs.Programs.{run}
 use Rattle.model.specs.Store.{Store}
@@ -10,13 +10,11 @@ use Rattle.call_rules.specs.Outcome.{Verdict, runs, unless_declined, as_handle, 
 use Rattle.store.specs.RelationCalls.{relation_verdict, relation_read_verdict}
 use Rattle.store.specs.SetCalls.{set_verdict, set_read_verdict}
 use Rattle.call_rules.specs.declared.Answer.{Answer}
-use Rattle.call_rules.specs.declared.Answer.TheVariants.{Declined}
-use Rattle.call_rules.specs.declared.Check.TheVariants.{Level}
 use Rattle.call_rules.specs.declared.Refusal.{Refusal}
 use Rattle.call_rules.specs.declared.added.NodeCounts.{NodeCounts}
 use Rattle.call_rules.specs.declared.Refusal.TheVariants.{OutOfRange, UsedUp}
 use Rattle.policies.specs.Outcome.{refused, text_verdict}
-use Rattle.policies.specs.declared.PolicyAnswer.{PolicyAnswer}
+use Rattle.policies.specs.Answers.{PolicyAnswer}
 
 -- 01: "k and two lists of nodes, one of each kind, without limit"
 pub record Plain : Type 0 where
@@ -40,9 +38,9 @@ abbrev pub asked_here : {A : Type 0} → (ℕ → Store → Verdict A) → Plain
 asked_here v P = record { verdict = v P.width P.lists; lists = P.lists; taken = plain_store P.width }
 
 -- 01: "`new(k)` makes its 3k and k nodes .. on copies that begin empty"
-unfoldable pub asked : Call → Plain → Asked Answer
+unfoldable pub asked : Call → Plain → Asked (Result Answer Refusal)
 asked (new_store k) P =
-    record { verdict = unless_declined Declined (guard OutOfRange (leb k 32) (Level k)) (λ k. runs (new k) as_handle); lists = blank; taken = plain_store k }
+    record { verdict = unless_declined Err (guard OutOfRange (leb k 32) (Ok k)) (λ k. runs (new k) as_handle); lists = blank; taken = plain_store k }
 asked (set_call c) P = asked_here (set_verdict c) P
 asked (set_read c) P = asked_here (set_read_verdict c) P
 asked (relation_call c) P = asked_here (relation_verdict c) P
@@ -63,8 +61,8 @@ unfoldable pub on_lists : {A : Type 0} → (Refusal → A) → ℕ → ℕ → (
 on_lists refuse m n v P = within refuse m n (asked_here v P) P
 
 -- 01: "It is fed the calls' arguments and both numbers of places, no answers"
-unfoldable pub plain_step : ℕ → ℕ → Call → Plain → Outcome Answer Plain
-plain_step m n c P = within Declined m n (asked c P) P
+unfoldable pub plain_step : ℕ → ℕ → Call → Plain → Outcome (Result Answer Refusal) Plain
+plain_step m n c P = within Err m n (asked c P) P
 
 unfoldable pub plain_policy_step : ℕ → ℕ → List ℕ → Plain → Outcome PolicyAnswer Plain
 plain_policy_step m n t P = on_lists refused m n (text_verdict t) P

@@ -1,9 +1,9 @@
 -- Document 01, "Calls with their handles": the calls in its order, each with its answer; and 02, M-100, M-101 and M-103 to M-105.
-use Rattle.std.specs.Prelude.{◌≡◌, List, [], ◌∷◌, map, Bool, true, false, ℕ, length}
+use Rattle.std.specs.Prelude.{◌≡◌, List, [], ◌∷◌, map, Bool, true, false, ℕ, length, Ok, Err}
 use Rattle.store_check.specs.Memory.{Memories}
 use Rattle.call_rules.specs.Added.{node_counts}
 use Rattle.call_rules.specs.declared.Answer.{Answer}
-use Rattle.call_rules.specs.declared.Answer.TheVariants.{Handle, Truth, SetNode, RelationNode, Declined, Pair, Nothing, Member}
+use Rattle.call_rules.specs.declared.Answer.TheVariants.{Handle, Truth, SetNode, RelationNode, Pair, Nothing, Member}
 use Rattle.call_rules.specs.declared.Refusal.{Refusal}
 use Rattle.call_rules.specs.declared.Refusal.TheVariants.{NotHeld, LevelsDiffer, OutOfRange, UsedUp}
 use Rattle.store.specs.Calls.{Call, new_store, set_call, set_read, relation_call, relation_read, image_call, filter_call, path_read}
@@ -14,9 +14,9 @@ use Rattle.store.specs.declared.set_reads.SetRead.TheVariants as TR
 use Rattle.store.specs.declared.image_calls.ImageCall.TheVariants.{Fwd, Bwd, Push, Pull}
 use Rattle.store.specs.declared.filter_calls.FilterCall.TheVariants.{Diagonal, Ifwd, Ibwd}
 use Rattle.store.specs.declared.path_reads.PathRead.TheVariants.{HasImage, HasPath, FirstPath}
-use Rattle.policies.specs.declared.Fault.{Fault}
-use Rattle.policies.specs.declared.Fault.TheVariants.{NotPolicy, NotPredicate}
-use Rattle.policies.specs.declared.PolicyAnswer.TheVariants as P
+use Rattle.policy_text.specs.Misreads.{misread}
+use Rattle.policy_text.specs.declared.Fault.{Fault}
+use Rattle.policy_text.specs.declared.Fault.TheVariants.{NotPolicy, NotPredicate}
 use Rattle.policies.specs.declared.PolicyRefusal.TheVariants.{At, Store}
 use Rattle.theorems.specs.AllCalls.{AnyCall, call, policy, AnyAnswer, answered, read, AnyReply, all_calls}
 use Rattle.theorems.specs.Lists.{steps}
@@ -26,7 +26,7 @@ abbrev pub Expected : Type 0
 Expected = AnyCall × AnyAnswer
 
 abbrev pub expects : Call → Answer → Expected
-expects c a = (call c, answered a)
+expects c a = (call c, answered (Ok a))
 
 abbrev pub yields : Call → ℕ → Expected
 yields c h = expects c (Handle h)
@@ -35,14 +35,14 @@ abbrev pub decides : Call → Bool → Expected
 decides c b = expects c (Truth b)
 
 abbrev pub refuses : Call → Refusal → Expected
-refuses c r = expects c (Declined r)
+refuses c r = (call c, answered (Err r))
 
 -- a text with its handle, or with its fault and the offset
 abbrev pub text_yields : List ℕ → ℕ → Expected
-text_yields t h = (policy t, read (P.Handle h))
+text_yields t h = (policy t, read (Ok h))
 
 abbrev pub text_refused : List ℕ → Fault → ℕ → Expected
-text_refused t f i = (policy t, read (P.Declined (At f i)))
+text_refused t f i = (policy t, read (Err (At (misread f i))))
 
 -- a row that also has the relation nodes and the set nodes that its call adds
 abbrev pub adding : Expected → ℕ → ℕ → AnyCall × AnyReply
@@ -293,7 +293,7 @@ added =
 
 -- the same text where there are four places for relations: 6, and nothing is added
 abbrev pub none_added : List (AnyCall × AnyReply)
-none_added = adding (yields (new_store 1) 4) 3 1 ∷ adding (policy either_value, read (P.Declined (Store UsedUp))) 0 0 ∷ []
+none_added = adding (yields (new_store 1) 4) 3 1 ∷ adding (policy either_value, read (Err (Store UsedUp))) 0 0 ∷ []
 
 -- WHAT IS CLAIMED of them. Numbers that 01 does not give are the least that hold the nodes of the table
 pub record Worked : Type 0 where

@@ -5,10 +5,10 @@ use Rattle.call_rules.proofs.Counting.{new_given}
 use Rattle.new_store.proofs.Creating.{new_accepted}
 use Rattle.new_store.proofs.new.Goals as goal
 
-pub returns-in-Level : goal.returns-in-Level
-returns-in-Level c =
+pub returns-in-Ok : goal.returns-in-Ok
+returns-in-Ok c =
     let a = c.args in (
-      new_given held_in _ _ (new_accepted a.k _ (memories a.relations.now a.sets.now) _ _ _ c.in-Level.ensures
+      new_given held_in _ _ (new_accepted a.k _ (memories a.relations.now a.sets.now) _ _ _ c.in-Ok.ensures
           c.write_relations-top.ensures.0 c.write_sets.ensures c.write_relations-top.ensures.1)
           c.held.ensures,
       c.clear.ensures,

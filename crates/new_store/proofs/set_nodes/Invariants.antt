@@ -1,11 +1,7 @@
 -- `set_nodes` by a loop: the nodes of the levels passed are written.
-use Prim.Native.Nat.{◌-◌, ◌≤◌}
 use Rattle.model.specs.NewNodes.{new_sets}
 use Rattle.new_store.specs.Creating.{NodesWritten}
 use Rattle.new_store.proofs.set_nodes.Given as goal
 
 abbrev pub invariant-loop-i : goal.invariant-loop-i
-invariant-loop-i l = (l.i ≤ l.k) × NodesWritten 2 0 l.i (new_sets l.i) l.initial.nodes l.nodes
-
-abbrev pub decreases-loop-i : goal.decreases-loop-i
-decreases-loop-i l = l.k - l.i
+invariant-loop-i l = NodesWritten 2 0 l.i (new_sets l.i) l.initial.nodes l.nodes

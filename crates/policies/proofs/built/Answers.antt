@@ -1,5 +1,6 @@
 -- `built` has the text's outcome: the build pass runs its policy's program, and `commit` ends it.
 use native.Mathlib.Omega.{arith}
+use mathlib.Core.Path.{refl}
 use Rattle.model.specs.Store.{rel}
 use Rattle.store_check.specs.Memory.{memories}
 use Rattle.policies.proofs.BuiltTexts.{fitted, full, built_within, built_ran}
@@ -21,21 +22,21 @@ pub commit-requires : goal.commit-requires
 commit-requires c =
     let a = c.args in
     let y = c.requires in
-    let t = built_within a.text.now (memories a.relations.now a.sets.now) a.work.now y.0 _ c.as_index-n.ensures
-    y.1 y.2 _ c.as_level.ensures _ _ _ c.build-r.ensures in (omega arith, t.0, t.1, t.2)
+    let t = built_within a.text.now (memories a.relations.now a.sets.now) a.work.now y.0 _ refl
+    y.1 y.2 _ refl _ _ c.build-made.new.n c.build-made.result c.build-made.ensures in (omega arith, t.0, t.1, t.2)
 
-pub returns-then-fits : goal.returns-then-fits
-returns-then-fits c =
+pub returns-in-Some : goal.returns-in-Some
+returns-in-Some c =
     let a = c.args in
     let y = c.requires in
-    built_ran a.text.now (memories a.relations.now a.sets.now) a.work.now y.0 _ c.as_index-n.ensures
-    y.1 y.2 _ c.as_level.ensures _ _ _ c.build-r.ensures _ _
-    c.commit.ensures (fitted c.if-fits.true)
+    built_ran a.text.now (memories a.relations.now a.sets.now) a.work.now y.0 _ refl
+    y.1 y.2 _ refl _ _ c.build-made.new.n c.build-made.result c.build-made.ensures _ _
+    c.commit.ensures (fitted _ c.in-Some.is)
 
 pub returns : goal.returns
 returns c =
     let a = c.args in
     let y = c.requires in
-    built_ran a.text.now (memories a.relations.now a.sets.now) a.work.now y.0 _ c.as_index-n.ensures
-    y.1 y.2 _ c.as_level.ensures _ _ _ c.build-r.ensures _ _
-    c.commit.ensures (full c.if-fits.false)
+    built_ran a.text.now (memories a.relations.now a.sets.now) a.work.now y.0 _ refl
+    y.1 y.2 _ refl _ _ c.build-made.new.n c.build-made.result c.build-made.ensures _ _
+    c.commit.ensures (full _ _ c.in_default.not-Some)

@@ -1,6 +1,7 @@
 -- `mixed` performs the operation that its sign stands for: by the comparisons with `&` and `-`.
 use mathlib.Core.Path.{◌≡◌, ap}
 use Prim.Native.Nat.{ℕ}
+use native.Mathlib.Omega.{arith}
 use borrow.Author.Tests.{eq-eqb, ne_eqb}
 use Rattle.model.specs.Store.{rel}
 use Rattle.model.specs.Operations.{intersect, xor, difference}
@@ -22,11 +23,11 @@ module _ (b k x y : ℕ) where
   unfolding mix_of mix_program
   is_either e f = simp (ne_eqb b 38 e, ne_eqb b 45 f)
 
-pub returns-then-sign-eq38 : goal.returns-then-sign-eq38
-returns-then-sign-eq38 c = performs_by (is_both _ _ _ _ c.if-sign-eq38.true) c.intersect.ensures
+pub returns-in-38 : goal.returns-in-38
+returns-in-38 c = performs_by (is_both _ _ _ _ c.in-38.is) c.intersect.ensures
 
-pub returns-then-sign-eq45 : goal.returns-then-sign-eq45
-returns-then-sign-eq45 c = performs_by (is_minus _ _ _ _ c.if-sign-eq45.true) c.difference.ensures
+pub returns-in-45 : goal.returns-in-45
+returns-in-45 c = performs_by (is_minus _ _ _ _ c.in-45.is) c.difference.ensures
 
-pub returns : goal.returns
-returns c = performs_by (is_either _ _ _ _ c.if-sign-eq38.false c.if-sign-eq45.false) c.xor.ensures
+pub returns-in_default : goal.returns-in_default
+returns-in_default c = performs_by (is_either _ _ _ _ (λ e. omega arith) (λ e. omega arith)) c.xor.ensures

@@ -2,13 +2,11 @@
 use Rattle.policy_text.proofs.Order.{no_field_rules, not_predicate_rules, policy_rules}
 use Rattle.policy_text.proofs.keeps_rules.Goals as goal
 
-pub returns-in-At : goal.returns-in-At
-returns-in-At c = no_field_rules _ _ _ _ c.first_without-field.ensures c.in-At.is
+pub returns-in-Some : goal.returns-in-Some
+returns-in-Some c = no_field_rules _ _ _ c.in-Some.ensures
 
-pub returns-in-At-negation : goal.returns-in-At-negation
-returns-in-At-negation c =
-    not_predicate_rules _ _ _ _ _ c.first_without-field.ensures c.in_default.is c.first_offending-negation.ensures c.in-At-negation.is
+pub returns-in-Some-first_offending : goal.returns-in-Some-first_offending
+returns-in-Some-first_offending c = not_predicate_rules _ _ _ c.in_default.ensures c.in-Some-first_offending.ensures
 
-pub returns-in-Nowhere : goal.returns-in-Nowhere
-returns-in-Nowhere c =
-    policy_rules _ _ _ _ c.first_without-field.ensures c.in_default.is c.first_offending-negation.ensures c.in-Nowhere.is
+pub returns : goal.returns
+returns c = policy_rules _ _ c.in_default.ensures c.in_default-first_offending.ensures

@@ -31,4 +31,4 @@ returns c =
     (no (no (no (no (by begin (sequence_is _ _ _)) (empty_says c.relation_properties-pa.ensures c.if-pa.false))
     (identity_says c.relation_properties-pb.ensures c.if-pb.false))
     (empty_says c.relation_properties-pb.ensures c.if-pb-2.false))
-    (identity_says c.relation_properties-pa.ensures c.if-pa-2.false)) c.recall.ensures
+    (identity_says c.relation_properties-pa.ensures c.if-pa-2.false)) c.look_up.ensures

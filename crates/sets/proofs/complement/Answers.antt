@@ -4,4 +4,4 @@ use Rattle.sets.proofs.Opened.{complement_is}
 use Rattle.sets.proofs.complement.Goals as goal
 
 pub returns : goal.returns
-returns c l m w = performs_by (complement_is l _ c.other.ensures) (performs_ret _ c.with_handle.ensures)
+returns c l n m w = performs_by (complement_is l _ c.other.ensures) performs_ret

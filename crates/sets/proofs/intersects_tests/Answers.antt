@@ -50,7 +50,7 @@ returns-then-b-a c =
     (empty_says c.set_properties-pb.ensures c.if-pb.false))
     (same_says (ne_eqb _ _ c.if-a-b.false))) (universal_says c.set_properties-pa.ensures c.if-pa-2.false))
     (universal_says c.set_properties-pb.ensures c.if-pb-2.false)) (less_says (lt-ltb _ _ c.if-b-a.true)))
-    c.recall.ensures
+    c.look_up.ensures
 
 pub returns : goal.returns
 returns c =
@@ -60,4 +60,4 @@ returns c =
     (empty_says c.set_properties-pb.ensures c.if-pb.false))
     (same_says (ne_eqb _ _ c.if-a-b.false))) (universal_says c.set_properties-pa.ensures c.if-pa-2.false))
     (universal_says c.set_properties-pb.ensures c.if-pb-2.false)) (less_says (le-ltb _ _ c.if-b-a.false)))
-    c.recall-2.ensures
+    c.look_up-2.ensures

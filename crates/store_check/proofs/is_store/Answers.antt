@@ -1,5 +1,5 @@
 -- `is_store` meets its contract: heads first, then both kinds' nodes over the cleared working memory.
-use mathlib.Core.Path.{sym, ap, ◌∙◌, subst}
+use mathlib.Core.Path.{refl, sym, ap, ◌∙◌, subst}
 use native.Mathlib.Omega.{arith}
 use lib.ListN.{length, length-replicate}
 use Rattle.model.specs.Store.{set, rel}
@@ -38,8 +38,8 @@ bounds-relations-0 c = omega (arith, ((c.heads_fit.ensures.so c.if-not-heads_fit
 pub both_fit-requires : goal.both_fit-requires
 both_fit-requires c =
     let H = c.heads_fit.ensures.so c.if-not-heads_fit.false in
-    let p = part_fits rel _ _ (H.room rel) c.as_index-n.ensures in
-    let q = part_fits set _ _ (H.room set) c.as_index-m.ensures in
+    let p = part_fits rel _ _ (H.room rel) refl in
+    let q = part_fits set _ _ (H.room set) refl in
     (omega arith, p.0, p.1, omega arith, q.0, q.1)
 
 pub slice_bounds-both_fit-count-else-last : goal.slice_bounds-both_fit-count-else-last
@@ -60,26 +60,20 @@ bounds-relations-0-else-last c = omega (arith, ((c.heads_fit.ensures.so c.if-not
 pub both_fit-requires-else-last : goal.both_fit-requires-else-last
 both_fit-requires-else-last c =
     let H = c.heads_fit.ensures.so c.if-not-heads_fit.false in
-    let p = part_fits set _ _ (H.room set) c.as_index-m.ensures in
-    let q = part_fits rel _ _ (H.room rel) c.as_index-n.ensures in
+    let p = part_fits set _ _ (H.room set) refl in
+    let q = part_fits rel _ _ (H.room rel) refl in
     (omega arith, p.0, p.1, omega arith, q.0, q.1)
 
 pub returns-then-last : goal.returns-then-last
 returns-then-last c =
     let b = c.both_fit in
-    let m = c.as_index-m in
-    let n = c.as_index-n in
     let a = c.args in
     subst (λ l. StoreChecked (memories a.relations.now a.sets.now) l a.work.now b.new.work b.result) (sym c.if-last.true)
-    (sets_last _ (c.heads_fit.ensures.so c.if-not-heads_fit.false) a.work.now _ _ c.clear.ensures n.result m.result n.ensures m.ensures
-    b.ensures)
+    (sets_last _ (c.heads_fit.ensures.so c.if-not-heads_fit.false) a.work.now _ _ c.clear.ensures _ _ refl refl b.ensures)
 
 pub returns-else-last : goal.returns-else-last
 returns-else-last c =
     let b = c.both_fit-else-last in
-    let m = c.as_index-m in
-    let n = c.as_index-n in
     let a = c.args in
     subst (λ l. StoreChecked (memories a.relations.now a.sets.now) l a.work.now b.new.work b.result) (sym c.if-last.false)
-    (relations_last _ (c.heads_fit.ensures.so c.if-not-heads_fit.false) a.work.now _ _ c.clear.ensures m.result n.result m.ensures
-    n.ensures b.ensures)
+    (relations_last _ (c.heads_fit.ensures.so c.if-not-heads_fit.false) a.work.now _ _ c.clear.ensures _ _ refl refl b.ensures)

@@ -10,4 +10,4 @@ returns-then-word-ne0 c =
     let a = c.args in
     let z = c.if-word-ne0.true in
     λ K B e p F E A. level_known K B a.nodes.now a.k a.i a.word _ (omega arith)
-    (ap (λ (r : Properties). r.level) c.properties_in-p.ensures) F E A
+    (ap (λ (r : Properties). r.level) c.properties_in.ensures) F E A

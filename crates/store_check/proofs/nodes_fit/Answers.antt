@@ -9,17 +9,16 @@ pub returns-then-not-node_fits : goal.returns-then-not-node_fits
 returns-then-not-node_fits c =
     let a = c.args in
     let o = c.loop-i in
-    checked_no a.c a.n a.k o.i a.nodes.now a.work.now o.work o.invariant.2 c.gather-word.result c.gather-word.ensures
+    checked_no a.c a.n a.k o.i a.nodes.now a.work.now o.work o.invariant.1 c.gather-word.result c.gather-word.ensures
     c.node_fits.result
-    (omega arith) o.invariant.1 c.node_fits.ensures (c.if-not-node_fits.true)
+    (omega arith) o.invariant.0 c.node_fits.ensures (c.if-not-node_fits.true)
 
 pub loop-i-preserved : goal.loop-i-preserved
 loop-i-preserved c =
     let a = c.args in
     let o = c.loop-i in (
-      omega arith,
       c.enter.ensures.apart.work_length ∙ search rules,
-      all_next a.c a.n a.k o.i a.nodes.now a.work.now o.work o.invariant.2 c.gather-word.result c.gather-word.ensures
+      all_next a.c a.n a.k o.i a.nodes.now a.work.now o.work o.invariant.1 c.gather-word.result c.gather-word.ensures
           c.node_fits.result _ _
           (omega arith) c.node_fits.ensures (c.if-not-node_fits.false) c.write.ensures
           c.enter.ensures,
@@ -29,4 +28,4 @@ pub returns : goal.returns
 returns c =
     let a = c.args in
     let o = c.loop-i in
-    checked_yes a.c a.n a.k o.i a.nodes.now a.work.now o.work o.invariant.2 (omega arith) o.invariant.1
+    checked_yes a.c a.n a.k o.i a.nodes.now a.work.now o.work o.invariant.1 (omega arith) o.invariant.0

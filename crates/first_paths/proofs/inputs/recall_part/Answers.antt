@@ -1,5 +1,4 @@
 -- `recall_part` knows a part where the memo has it, and where the level is too low for bits there.
-use native.Mathlib.Omega.{arith}
 use Rattle.first_paths.proofs.Ranks.{part_none, part_known}
 use Rattle.first_paths.proofs.inputs.recall_part.Goals as goal
 
@@ -7,4 +6,4 @@ pub returns-then-level-i : goal.returns-then-level-i
 returns-then-level-i c = part_none _ _ _ _ _ c.requires c.if-level-i.true
 
 pub returns : goal.returns
-returns c = part_known _ _ _ _ _ c.requires (omega arith) c.recall.ensures
+returns c = part_known _ _ _ _ _ c.requires c.in_ok-op.ensures.0 c.in_ok-op.ensures.2 c.recall.ensures

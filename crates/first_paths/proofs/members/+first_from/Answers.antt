@@ -1,11 +1,11 @@
 -- `first_from` finds the first member from a rank on; the measure is the level.
 use mathlib.Core.Path.{◌≡◌, sym, subst}
-use Prim.Native.Nat.{ℕ, ◌+◌, ◌-◌, ◌^◌, ◌<◌, ◌≤◌, zero-le}
+use Prim.Native.Nat.{ℕ, ◌+◌, ◌-◌, ◌^◌, ◌<◌, ◌≤◌}
 use native.Mathlib.Nat.{pow-suc}
 use native.Mathlib.Omega.{arith}
-use Rattle.model.proofs.Powers.{pow_less}
+use Rattle.model.proofs.Powers.{pow_pos, pow_less}
 use Rattle.first_paths.proofs.Halves.{one_above}
-use Rattle.first_paths.proofs.FromRanks.{find_empty, find_one, find_first, find_second, find_beyond}
+use Rattle.first_paths.proofs.FromRanks.{find_empty, find_at_0, find_first, find_second, find_beyond}
 use Rattle.first_paths.proofs.members.+first_from.Goals as goal
 
 -- two halves are the whole
@@ -19,15 +19,19 @@ below l v t h e i = let d = pow_less (l - 1) l (omega arith) in omega (arith, e)
 pub returns-then-pp : goal.returns-then-pp
 returns-then-pp t c = record { small = omega (arith, c.power.ensures); first = find_empty c.set_properties-pp.ensures c.if-pp.true c.power.ensures }
 
-pub returns-then-from-eq0 : goal.returns-then-from-eq0
-returns-then-from-eq0 t c = record { small = zero-le; first = find_one c.set_properties-pp.ensures c.if-pp.false c.if-level-eq0.true c.if-from-eq0.true }
+pub returns-then-level-eq0 : goal.returns-then-level-eq0
+returns-then-level-eq0 t c =
+    record {
+      small = let e = pow_pos c.args.level in omega (arith, c.min.ensures);
+      first = find_at_0 c.set_properties-pp.ensures c.if-pp.false c.if-level-eq0.true c.min.ensures;
+    }
 
 pub returns-then-from-half : goal.returns-then-from-half
 returns-then-from-half t c =
     record {
-      small = both _ _ _ c.if-level-eq0.false c.power-half.ensures c.first_from-rest.ensures.small;
+      small = both _ _ _ c.if-level-eq0.false c.power-half.ensures c.first_from.ensures.small;
       first = find_beyond (one_above _ c.if-level-eq0.false) c.get-x.ensures c.power-half.ensures c.if-from-half.true
-          c.first_from-rest.ensures.first;
+          c.first_from.ensures.first;
     }
 
 pub returns-then-r0-half : goal.returns-then-r0-half
@@ -41,7 +45,7 @@ returns-then-r0-half t c =
 pub returns : goal.returns
 returns t c =
     record {
-      small = both _ _ _ c.if-level-eq0.false c.power-half.ensures c.first_from-r1.ensures.small;
+      small = both _ _ _ c.if-level-eq0.false c.power-half.ensures c.first_from-2.ensures.small;
       first = find_second (one_above _ c.if-level-eq0.false) c.get-x.ensures c.power-half.ensures c.if-from-half.false c.if-r0-half.false
-          c.first_from-r0.ensures.first c.first_from-r1.ensures.first;
+          c.first_from-r0.ensures.first c.first_from-2.ensures.first;
     }

@@ -3,5 +3,5 @@ use native.Mathlib.Omega.{arith}
 use Rattle.model.proofs.Powers.{pow_less}
 use Rattle.first_paths.proofs.members.in_second_half.Goals as goal
 
-pub overflow_add-result-2 : goal.overflow_add-result-2
-overflow_add-result-2 c = let t = pow_less _ 30 c.requires in omega (arith, c.none_at-half.ensures)
+pub overflow_add-result : goal.overflow_add-result
+overflow_add-result c = let t = pow_less _ 30 c.requires in omega (arith, c.none_at-half.ensures)

@@ -28,17 +28,17 @@ small n i h = omega (arith, rank_below (packet_is i n), pow_less i 32 h)
 fits : (n l i r m : ℕ) → l ≤ 32 → i < l → r ≡ rank (packet i n) → m ≡ n / 2 ^ i → 2 * r + m % 2 < 4294967296
 fits n l i r m h j e f = omega (arith, next_rank n _ _ _ e f, small n (i + 1) (omega arith))
 
-pub loop-i-init : goal.loop-i-init
-loop-i-init c = let s = starts c.args.n in (omega arith, s.0, s.1)
+pub loop-init : goal.loop-init
+loop-init c = starts c.args.n
 
 pub overflow_mul-r : goal.overflow_mul-r
-overflow_mul-r c = let f = fits c.args.n _ _ _ _ c.requires c.loop-i-test.true c.loop-i.invariant.1 c.loop-i.invariant.2 in omega arith
+overflow_mul-r c = let f = fits c.args.n _ _ _ _ c.requires c.loop-test.true c.loop.invariant.0 c.loop.invariant.1 in omega arith
 
 pub overflow_add-r : goal.overflow_add-r
-overflow_add-r c = let f = fits c.args.n _ _ _ _ c.requires c.loop-i-test.true c.loop-i.invariant.1 c.loop-i.invariant.2 in omega arith
+overflow_add-r c = let f = fits c.args.n _ _ _ _ c.requires c.loop-test.true c.loop.invariant.0 c.loop.invariant.1 in omega arith
 
-pub loop-i-preserved : goal.loop-i-preserved
-loop-i-preserved c =
-    let v = c.loop-i in
+pub loop-preserved : goal.loop-preserved
+loop-preserved c =
+    let v = c.loop.invariant in
     let n = c.args.n in
-    (omega (arith, c.loop-i-test.true), next_rank n _ _ _ v.invariant.1 v.invariant.2, next_rest n _ _ v.invariant.2)
+    (next_rank n _ _ _ v.0 v.1, next_rest n _ _ v.1)

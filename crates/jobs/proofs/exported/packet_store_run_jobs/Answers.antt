@@ -1,9 +1,11 @@
 -- `packet_store_run_jobs`: what `begin` ensures is the first head, what `find_places` and `run_one` ensure makes the next one, and where no turn is left
 -- what `conclude` ensures is what the call says.
 use mathlib.Core.Path.{◌≡◌, ap, ◌∙◌}
-use Prim.Native.Nat.{ℕ, ◌<◌, ◌≤◌}
+use Prim.Native.Nat.{ℕ}
 use mathlib.Core.List.{List}
+use native.Mathlib.Omega.{arith}
 use lib.ListN.{length, get_or}
+use Rattle.std.specs.Result.{result_unwrap_or}
 use Rattle.store_check.specs.Memory.{Memories, memories}
 use Rattle.jobs.specs.ByValue.{zeros, places_of, TakesTurn, begun_of, concluded}
 use Rattle.jobs.specs.declared.Job.{Job}
@@ -25,11 +27,8 @@ at_places : {n : ℕ} (i : ℕ) (j : Job) (ys : List Job) {p : Places} {M M' : M
 at_places i j ys p-is e = rw p-is at e
 
 -- the turns that a call has are those that it began with
-more_turns : {b d : Begun} {i : ℕ} → b ≡ d → i < b.turns → i < d.turns
-more_turns e h = rw e at h
-
-no_turns : {b d : Begun} {i : ℕ} → b ≡ d → b.turns ≤ i → d.turns ≤ i
-no_turns e h = rw e at h
+turns_are : {b d : Begun} {n : ℕ} → b ≡ d → n ≡ result_unwrap_or b.turns 0 → n ≡ result_unwrap_or d.turns 0
+turns_are e is = is ∙ ap (λ (b : Begun). result_unwrap_or b.turns 0) e
 
 pub loop-i-init : goal.loop-i-init
 loop-i-init c =
@@ -41,10 +40,11 @@ pub loop-i-preserved : goal.loop-i-preserved
 loop-i-preserved c =
     let args = c.args in
     let now = c.loop-i in
-    let done = c.run_one-done in (
+    let done = c.run_one-done in
+    let turns = turns_are now.invariant.0 c.unwrap_or-i-end.ensures in (
       now.invariant.0,
       next_head args.jobs.now args.limit (memories args.relations.now args.sets.now) args.work.now now.i now.jobs now.tally
-          (memories now.relations now.sets) now.work now.invariant.1 (more_turns now.invariant.0 c.loop-i-test.true) done.result
+          (memories now.relations now.sets) now.work now.invariant.1 (omega arith) done.result
           (memories done.new.relations done.new.sets) done.new.work
           (at_places now.i (get_or now.jobs now.i no_job) now.jobs c.find_places-at.ensures done.ensures) done.auto.relations done.auto.sets done.auto.work,
     )
@@ -53,6 +53,7 @@ pub returns : goal.returns
 returns c =
     let args = c.args in
     let now = c.loop-i in
+    let turns = turns_are now.invariant.0 c.unwrap_or-i-end.ensures in
     says_so args.jobs.now args.limit (memories args.relations.now args.sets.now) args.work.now now.i now.jobs now.tally
-    (memories now.relations now.sets) now.work now.invariant.1 (no_turns now.invariant.0 c.loop-i-test.false) c.conclude.result
+    (memories now.relations now.sets) now.work now.invariant.1 (omega arith) c.conclude.result
     (c.conclude.ensures ∙ ap (λ (b : Begun). concluded b now.tally) now.invariant.0)

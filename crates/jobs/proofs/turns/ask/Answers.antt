@@ -4,71 +4,89 @@ use mathlib.Core.Path.{◌≡◌, sym, ap, ◌∙◌}
 use Prim.Native.Nat.{ℕ, ◌<◌, ◌≤◌}
 use native.Mathlib.Omega.{arith}
 use borrow.Author.Tests.{lt-ltb, le-leb}
+use Rattle.std.proofs.Common.{rules}
+use Rattle.std.specs.Prelude.{Option, Some, None, Result, Ok, Err, ok_or}
 use Rattle.store.specs.Calls.{Call}
 use Rattle.jobs.specs.Operations.{is_known_operation, numbered}
 use Rattle.jobs.specs.Jobs.{calls, refuses, stands_for, with_values, asks}
+use Rattle.jobs.specs.ByValue.{as_asks}
 use Rattle.jobs.specs.declared.Job.{Job}
 use Rattle.jobs.specs.declared.operations.Slots.{Slots}
-use Rattle.jobs.specs.declared.turns.Value.{Value}
-use Rattle.jobs.specs.declared.turns.Value.TheVariants.{Is, Missing}
+use Rattle.jobs.specs.declared.turns.JobRefusal.{JobRefusal}
+use Rattle.jobs.specs.declared.turns.JobRefusal.TheVariants.{NoSuchAnswer}
 use Rattle.jobs.proofs.turns.ask.Goals as goal
 
 -- numbers of operations
 is_known : (n : ℕ) → 0 < n → n ≤ 38 → is_known_operation n ≡ true
 is_known n positive most = λ i. lt-ltb 0 n positive i && le-leb n 38 most i
 
-module _ (j a b c : Job) where
-  -- what the operands stand for: x, y and z
-  module _ (known : is_known_operation j.operation ≡ true) {s : Slots} (is : s ≡ (numbered j.operation).operands) {x y z : Value}
-      (first : x ≡ stands_for s.a j.a a) (second : y ≡ stands_for s.b j.b b) (third : z ≡ stands_for s.c j.c c) where
-    first_is : x ≡ stands_for (numbered j.operation).operands.a j.a a
-    first_is = first ∙ ap (λ (s : Slots). stands_for s.a j.a a) is
+-- what an operand stands for, by what `ok_or` makes of it
+none_where : {o x : Option ℕ} {r : Result ℕ JobRefusal} {f : JobRefusal} (e : JobRefusal) → x ≡ o → r ≡ ok_or x e → r ≡ Err f → o ≡ None
+none_where {x = None} e is made err = sym is
+none_where {x = Some v} e is made err = cc
 
-    second_is : y ≡ stands_for (numbered j.operation).operands.b j.b b
-    second_is = second ∙ ap (λ (s : Slots). stands_for s.b j.b b) is
+some_where : {o x : Option ℕ} {r : Result ℕ JobRefusal} {v : ℕ} (e : JobRefusal) → x ≡ o → r ≡ ok_or x e → r ≡ Ok v → o ≡ Some v
+some_where {x = None} e is made ok = cc
+some_where {x = Some v} e is made ok = cc
 
-    third_is : z ≡ stands_for (numbered j.operation).operands.c j.c c
-    third_is = third ∙ ap (λ (s : Slots). stands_for s.c j.c c) is
+-- where the number n of the operation is known, whose operands s are
+module _ (j a b c : Job) {s : Slots} (known : is_known_operation j.operation ≡ true) (is : s ≡ (numbered j.operation).operands) where
+  abbrev x : Option ℕ
+  x = stands_for s.a j.a a
 
-    valued : with_values (numbered j.operation) x y z ≡ asks j a b c
-    unfolding asks
-    valued = rw known (λ i. with_values (numbered j.operation) (first_is i) (second_is i) (third_is i))
+  abbrev y : Option ℕ
+  y = stands_for s.b j.b b
 
-    no_first : x ≡ Missing → refuses 11 ≡ asks j a b c
-    no_first e = sym (ap (λ (v : Value). with_values (numbered j.operation) v y z) e) ∙ valued
+  abbrev z : Option ℕ
+  z = stands_for s.c j.c c
 
-    no_second : {p : ℕ} → x ≡ Is p → y ≡ Missing → refuses 11 ≡ asks j a b c
-    no_second e f = sym (λ i. with_values (numbered j.operation) (e i) (f i) z) ∙ valued
+  valued : with_values (numbered j.operation) x y z ≡ asks j a b c
+  unfolding asks
+  valued = rw known (ap (λ (s : Slots). with_values (numbered j.operation) (stands_for s.a j.a a) (stands_for s.b j.b b) (stands_for s.c j.c c)) is)
 
-    no_third : {p q : ℕ} → x ≡ Is p → y ≡ Is q → z ≡ Missing → refuses 11 ≡ asks j a b c
-    no_third e f g = sym (λ i. with_values (numbered j.operation) (e i) (f i) (g i)) ∙ valued
+  no_first : x ≡ None → refuses 11 ≡ asks j a b c
+  no_first e = sym (ap (λ (v : Option ℕ). with_values (numbered j.operation) v y z) e) ∙ valued
 
-    called : {d : Call} {p q r : ℕ} → x ≡ Is p → y ≡ Is q → z ≡ Is r → d ≡ (numbered j.operation).call p q r → calls d ≡ asks j a b c
-    called e f g h = ap calls h ∙ sym (λ i. with_values (numbered j.operation) (e i) (f i) (g i)) ∙ valued
+  no_second : {p : ℕ} → x ≡ Some p → y ≡ None → refuses 11 ≡ asks j a b c
+  no_second e f = sym (λ i. with_values (numbered j.operation) (e i) (f i) z) ∙ valued
 
-pub returns-in_default : goal.returns-in_default
-returns-in_default c =
+  no_third : {p q : ℕ} → x ≡ Some p → y ≡ Some q → z ≡ None → refuses 11 ≡ asks j a b c
+  no_third e f g = sym (λ i. with_values (numbered j.operation) (e i) (f i) (g i)) ∙ valued
+
+  called : {d : Call} {p q r : ℕ} → x ≡ Some p → y ≡ Some q → z ≡ Some r → d ≡ (numbered j.operation).call p q r → calls d ≡ asks j a b c
+  called e f g h = ap calls h ∙ sym (λ i. with_values (numbered j.operation) (e i) (f i) (g i)) ∙ valued
+
+pub returns-in_err-x : goal.returns-in_err-x
+returns-in_err-x c =
     let args = c.args in
-    no_first args.job args.a args.b args.c (is_known args.job.operation (omega arith) (omega arith)) c.operands-slots.ensures
-    c.stands_for-x.ensures c.stands_for-y.ensures c.stands_for-z.ensures c.in_default.is
+    let e : c.from_residual.result ≡ Err NoSuchAnswer = search rules in
+    ap as_asks e
+    ∙ no_first args.job args.a args.b args.c (is_known args.job.operation (omega arith) (omega arith)) c.operands-slots.ensures
+    (none_where _ c.stands_for.ensures c.ok_or.ensures.value (c.in_err-x.was))
 
-pub returns-in_default-y : goal.returns-in_default-y
-returns-in_default-y c =
+pub returns-in_err-y : goal.returns-in_err-y
+returns-in_err-y c =
     let args = c.args in
-    no_second args.job args.a args.b args.c (is_known args.job.operation (omega arith) (omega arith)) c.operands-slots.ensures
-    c.stands_for-x.ensures c.stands_for-y.ensures c.stands_for-z.ensures c.in-Is.is
-    c.in_default-y.is
+    let e : c.from_residual-in_err-y.result ≡ Err NoSuchAnswer = search rules in
+    ap as_asks e
+    ∙ no_second args.job args.a args.b args.c (is_known args.job.operation (omega arith) (omega arith)) c.operands-slots.ensures
+    (some_where _ c.stands_for.ensures c.ok_or.ensures.value (c.in_ok-x.was))
+    (none_where _ c.stands_for-2.ensures c.ok_or-2.ensures.value (c.in_err-y.was))
 
-pub returns-in_default-z : goal.returns-in_default-z
-returns-in_default-z c =
+pub returns-in_err-z : goal.returns-in_err-z
+returns-in_err-z c =
     let args = c.args in
-    no_third args.job args.a args.b args.c (is_known args.job.operation (omega arith) (omega arith)) c.operands-slots.ensures
-    c.stands_for-x.ensures c.stands_for-y.ensures c.stands_for-z.ensures c.in-Is.is
-    c.in-Is-y.is c.in_default-z.is
+    let e : c.from_residual-in_err-z.result ≡ Err NoSuchAnswer = search rules in
+    ap as_asks e
+    ∙ no_third args.job args.a args.b args.c (is_known args.job.operation (omega arith) (omega arith)) c.operands-slots.ensures
+    (some_where _ c.stands_for.ensures c.ok_or.ensures.value (c.in_ok-x.was))
+    (some_where _ c.stands_for-2.ensures c.ok_or-2.ensures.value (c.in_ok-y.was))
+    (none_where _ c.stands_for-3.ensures c.ok_or-3.ensures.value (c.in_err-z.was))
 
 pub returns : goal.returns
 returns c =
     let args = c.args in
     called args.job args.a args.b args.c (is_known args.job.operation (omega arith) (omega arith)) c.operands-slots.ensures
-    c.stands_for-x.ensures c.stands_for-y.ensures c.stands_for-z.ensures c.in-Is.is
-    c.in-Is-y.is c.in-Is-z.is c.call.ensures
+    (some_where _ c.stands_for.ensures c.ok_or.ensures.value (c.in_ok-x.was))
+    (some_where _ c.stands_for-2.ensures c.ok_or-2.ensures.value (c.in_ok-y.was))
+    (some_where _ c.stands_for-3.ensures c.ok_or-3.ensures.value (c.in_ok-z.was)) c.call.ensures

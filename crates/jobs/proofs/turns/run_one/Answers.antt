@@ -12,7 +12,8 @@ use Rattle.jobs.specs.Jobs.{Asks, asks, carried_out, turn, ran, take_turn}
 use Rattle.jobs.specs.ByValue.{zeros, CarriesOut, TakesTurn}
 use Rattle.jobs.specs.declared.Job.{Job}
 use Rattle.jobs.proofs.turns.run_one.Goals as goal
-use Rattle.jobs.proofs.turns.run_one.Goals.{then-left-gt0+then-job-eq0, then-left-gt0+else-job-eq0, else-left-gt0}
+use Rattle.jobs.proofs.turns.run_one.Goals.{then-left-gt0+then-job, else-left-gt0}
+use Rattle.jobs.proofs.turns.run_one.Goals.{else-left-gt0-via-then-left-gt0+else-job, else-left-gt0-via-else-left-gt0}
 
 -- the turn's definition by its tests
 module _ (n : ℕ) (j a b c : Job) (M : Memories) where
@@ -57,13 +58,14 @@ returns c =
     let M = memories args.relations.now args.sets.now in
     let held = c.held.ensures in
     elim c.if-left-gt0.branch [
-      | then-left-gt0+then-job-eq0 w ↦
-          ran_one n args.job args.a args.b args.c M args.work.now held w.if-left-gt0.true w.if-job-eq0.true w.ask.ensures w.carry_out-after.ensures
+      | then-left-gt0+then-job w ↦
+          ran_one n args.job args.a args.b args.c M args.work.now held w.if-left-gt0.true w.if-job.true w.ask.ensures w.carry_out-after.ensures
           w.relations-is w.sets-is w.work-is w.after-is w.left-is
-      | then-left-gt0+else-job-eq0 w ↦
-          passed_over n args.job args.a args.b args.c M args.work.now held
-          (sym (stays n args.job args.a args.b args.c M w.if-left-gt0.true w.if-job-eq0.false)) w.relations-is w.sets-is w.work-is w.after-is w.left-is
       | else-left-gt0 w ↦
-          passed_over n args.job args.a args.b args.c M args.work.now held
-          (sym (stops n args.job args.a args.b args.c M w.if-left-gt0.false)) w.relations-is w.sets-is w.work-is w.after-is w.left-is
+          let is : take_turn step n args.job args.a args.b args.c M ≡ turn args.job n M
+          = elim w.else-left-gt0.branch [
+            | else-left-gt0-via-then-left-gt0+else-job v ↦ stays n args.job args.a args.b args.c M v.if-left-gt0.true v.if-job.false
+            | else-left-gt0-via-else-left-gt0 v ↦ stops n args.job args.a args.b args.c M v.if-left-gt0.false
+          ] in
+          passed_over n args.job args.a args.b args.c M args.work.now held (sym is) w.relations-is w.sets-is w.work-is w.after-is w.left-is
     ]

@@ -4,11 +4,14 @@ use native.Mathlib.Omega.{arith}
 use Rattle.listing.proofs.Widths.{of_one, of_two, of_others}
 use Rattle.listing.proofs.fields.read.Goals as goal
 
-pub returns-then-line-eq1 : goal.returns-then-line-eq1
-returns-then-line-eq1 c = c.one_digit.ensures ∙ of_one _ (omega arith)
+pub returns-in-len1 : goal.returns-in-len1
+returns-in-len1 c = c.one_digit.ensures ∙ of_one _ (omega arith)
 
-pub returns-then-line-eq2 : goal.returns-then-line-eq2
-returns-then-line-eq2 c = c.two_digits.ensures ∙ of_two _ (omega arith)
+pub returns-in-len2 : goal.returns-in-len2
+returns-in-len2 c = c.two_digits.ensures ∙ of_two _ (omega arith)
 
-pub returns : goal.returns
-returns c = of_others _ c.if-line-eq1.false c.if-line-eq2.false
+pub returns-in_default : goal.returns-in_default
+returns-in_default c = of_others _ (λ e. omega arith) (λ e. omega arith)
+
+pub returns-in_default-2 : goal.returns-in_default-2
+returns-in_default-2 c = of_others _ (λ e. omega arith) (λ e. omega arith)

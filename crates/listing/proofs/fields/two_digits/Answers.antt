@@ -1,21 +1,20 @@
--- `two_digits` by its three tests.
+-- `two_digits` by its ranges.
 use mathlib.Core.Path.{◌∙◌}
 use native.Mathlib.Omega.{arith}
-use borrow.Author.Tests.{ne_eqb}
-use Rattle.listing.proofs.Widths.{zero_first, no_first, no_second, both_digits}
+use Rattle.listing.proofs.Widths.{both_digits, not_both}
 use Rattle.listing.proofs.fields.two_digits.Goals as goal
 
-pub returns-then-a-eq48 : goal.returns-then-a-eq48
-returns-then-a-eq48 c = zero_first _ _ (omega arith)
+pub returns-in-49-to-57-48-to-57 : goal.returns-in-49-to-57-48-to-57
+returns-in-49-to-57-48-to-57 c = c.at_most_32.ensures ∙ both_digits _ _ (omega arith) (omega arith) (omega arith) (omega arith)
 
-pub returns-then-not-is_digit : goal.returns-then-not-is_digit
-returns-then-not-is_digit c = no_first _ _ _ c.is_digit.ensures (c.if-not-is_digit.true)
+pub returns-in_default : goal.returns-in_default
+returns-in_default c = not_both _ _ (λ low high low'. omega arith)
 
-pub returns-then-not-is_digit-2 : goal.returns-then-not-is_digit-2
-returns-then-not-is_digit-2 c = no_second _ _ _ c.is_digit-2.ensures (c.if-not-is_digit-2.true)
+pub returns-in_default-2 : goal.returns-in_default-2
+returns-in_default-2 c = not_both _ _ (λ low high low'. omega arith)
 
-pub returns : goal.returns
-returns c =
-    c.at_most_32.ensures
-    ∙ both_digits _ _ _ _ (ne_eqb _ _ c.if-a-eq48.false) c.is_digit.ensures (c.if-not-is_digit.false)
-    c.is_digit-2.ensures (c.if-not-is_digit-2.false)
+pub returns-in_default-3 : goal.returns-in_default-3
+returns-in_default-3 c = not_both _ _ (λ low high low'. omega arith)
+
+pub returns-in_default-4 : goal.returns-in_default-4
+returns-in_default-4 c = not_both _ _ (λ low high low'. omega arith)

@@ -10,6 +10,6 @@ returns c =
     let n = c.nodes_line.ensures in
     let y = c.requires in
     record {
-      upper_bound = omega (arith, y.1, f.few, p.few, n.few);
-      out_after = whole _ _ _ _ _ _ _ _ _ _ _ _ _ _ y.2 y.3 c.begin.ensures f p n;
+      upper_bound = omega (arith, y.0, f.few, p.few, n.few);
+      out_after = whole _ _ _ _ _ _ _ _ _ _ _ _ _ _ y.1 y.2 c.begin.ensures f p n;
     }

@@ -1,20 +1,19 @@
 -- `index::chase` meets its contract. The loop's invariant: where the index is right, v is on the chain of x's bucket and no node from v on is x.
 -- The measure is v: a link that does not lead down ends the search.
+use mathlib.Core.Path.{refl}
 use native.Mathlib.Omega.{arith}
 use Rattle.memory.proofs.Chains.{trail_start, trail_next, trail_wrong}
 use Rattle.memory.proofs.index.chase.Goals as goal
 
 pub loop-v-init : goal.loop-v-init
-loop-v-init c = let hash = c.hash-b in trail_start _ _ _ _ _ _ _ hash.ensures.0 hash.ensures.1 c.as_index-v.ensures
+loop-v-init g c = let pre = c.requires in trail_start _ _ _ _ _ _ _ pre.3 pre.4 refl
 
 pub returns-then-next-v : goal.returns-then-next-v
-returns-then-next-v c =
+returns-then-next-v g c =
     let v = c.loop-v.v in
-    trail_wrong _ _ _ _ _ (omega arith) v c.as_index-next.result (omega arith) (omega arith) c.as_index-next.ensures (omega arith)
+    trail_wrong _ _ _ _ _ (omega arith) v _ (omega arith) (omega arith) refl (omega arith)
 
 pub loop-v-preserved : goal.loop-v-preserved
-loop-v-preserved c =
+loop-v-preserved g c =
     let loop = c.loop-v in
-    trail_next _ _ _ _ _ loop.v c.as_index-next.result (omega arith) (omega arith) (c.same.ensures.no c.if-same.false)
-    c.as_index-next.ensures
-    loop.invariant
+    trail_next _ _ _ _ _ loop.v _ (omega arith) (omega arith) (c.is_at.ensures.no c.if-is_at.false) refl loop.invariant

@@ -7,4 +7,4 @@ pub returns : goal.returns
 returns c =
     let size = c.memo_size-m in
     index_empty c.args.work.now _ size.result size.ensures.0 (omega arith)
-    c.clear.ensures
+    (c.fill.ensures.after (λ y e. e))

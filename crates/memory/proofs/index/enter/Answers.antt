@@ -1,5 +1,5 @@
--- `index::enter` meets its contract: `link` puts node n at the head of the chain of its bucket.
-use mathlib.Core.Path.{◌≡◌, ap, ◌∙◌}
+-- `index::enter` meets its contract: `link_in` puts node n at the head of the chain of its bucket.
+use mathlib.Core.Path.{ap, ◌∙◌}
 use Rattle.memory.specs.Rows.{row}
 use Rattle.memory.specs.Working.{bucket}
 use Rattle.memory.proofs.Rows.{row_part}
@@ -7,10 +7,5 @@ use Rattle.memory.proofs.index.enter.Goals as goal
 
 pub returns : goal.returns
 returns c =
-    let link = c.link in
-    let hash = c.hash-b in
-    let size = c.memo_size-at in
-    let args = c.args in
-    let is : hash.result ≡ bucket (row args.c args.nodes.now args.n)
-    = hash.ensures.0 ∙ ap bucket (row_part args.c args.nodes.now args.n) in
-    link.ensures (row args.c args.nodes.now) size.ensures.0 is
+    let a = c.args in
+    c.link_in.ensures (row a.c a.nodes.now) (c.hash.ensures.0 ∙ ap bucket (row_part a.c a.nodes.now a.n))

@@ -1,6 +1,6 @@
 -- `memory::memo::slot` meets its contract. The loop's invariant: i is an even number behind the window's begin, and the lowest entry so far is of the window.
 use mathlib.Core.Path.{◌≡◌}
-use Prim.Native.Nat.{ℕ, ◌+◌, ◌-◌, ◌*◌, ◌%◌, ◌≤◌}
+use Prim.Native.Nat.{ℕ, ◌+◌, ◌*◌, ◌%◌, ◌≤◌}
 use Rattle.memory.specs.Working.{window_size}
 use Rattle.memory.proofs.memo.slot.Given as goal
 
@@ -8,8 +8,5 @@ use Rattle.memory.proofs.memo.slot.Given as goal
 abbrev pub Begins : ℕ → ℕ → Type 0
 Begins at r = (r % 2 ≡ at % 2) × (at ≤ r) × (r + 2 ≤ at + 2 * window_size)
 
-abbrev pub invariant-loop-i : goal.invariant-loop-i
-invariant-loop-i l = (l.e ≡ l.at + 2 * window_size) × (l.i % 2 ≡ l.at % 2) × (l.at ≤ l.i) × Begins l.at l.lowest
-
-abbrev pub decreases-loop-i : goal.decreases-loop-i
-decreases-loop-i l = l.e - l.i
+abbrev pub invariant-loop-j : goal.invariant-loop-j
+invariant-loop-j l = Begins l.at l.lowest

@@ -45,7 +45,7 @@ returns t c =
           let all = c.children_are-same.ensures K B n a r' v in
           let D = first_held K s.c s.level s.h x _ false p.result a F pos A e all in
           let H = subst (Has K S _ _) (sym p.ensures) ((c.walked.ensures K w a).knows k B n r F W D) in
-          let is = c.word_of.ensures.0 (c.word_of.ensures.1 (omega arith)) ∙ rw (c.both.ensures, c.both-2.ensures) in
+          let is = c.word_of.ensures.0 (c.word_of.ensures.1 (omega arith)) in
           subst (Has K S _ _) (sym is) (walked_has K s.c s.level s.h x _ c.is_identity.result p.result a F pos A e all H
           (of_rel K k B s.nodes.now s.c n s.level s.h x _ _ a F A r e H.identity (c.is_identity.ensures k B n)));
     }

@@ -9,6 +9,7 @@ use Rattle.model.specs.Store.{Kind, set, Store, index, handle_of}
 use Rattle.memory.specs.Working.{Known}
 use Rattle.memory.specs.Noting.{WordsOf}
 use Rattle.memory.proofs.Known.{known_constant, known_at, is_set, is_rel}
+use Rattle.memory.proofs.property_words.handle_word.Goals.{else-c-eq2-via-then-c-eq2+else-h-eq1, else-c-eq2-via-else-c-eq2}
 use Rattle.memory.proofs.property_words.handle_word.Goals as goal
 
 -- the word at the handle's place
@@ -28,17 +29,17 @@ returns-then-h-eq1 c =
     (c.opposite_word.ensures k S (handle_of set 0 (index set a.h)) F o))
     K (omega arith) (placed K S a.words.now a.h _ (c.place_of-i.ensures K e) (omega arith) W)
 
-pub returns-else-h-eq1 : goal.returns-else-h-eq1
-returns-else-h-eq1 c =
-    let a = c.args in
-    let v = get_or a.words.now c.place_of-i.result 0 in
-    λ K k S e F W. subst (λ (g : ℕ). Known K S g v) (is_set (λ (K : Kind). handle_of K 0 (index K a.h) ≡ a.h) (omega arith) K (omega arith))
-    (placed K S a.words.now a.h _ (c.place_of-i.ensures K e) (omega arith) W)
-
 pub returns-else-c-eq2 : goal.returns-else-c-eq2
 returns-else-c-eq2 c =
     let a = c.args in
     let v = get_or a.words.now c.place_of-i.result 0 in
-    λ K k S e F W. subst (λ (g : ℕ). Known K S g v)
-    (is_rel (λ (K : Kind). handle_of K 0 (index K a.h) ≡ a.h) _ c.if-c-eq2.false (omega arith) K e)
-    (placed K S a.words.now a.h _ (c.place_of-i.ensures K e) (omega arith) W)
+    let p = c.place_of-i.ensures in
+    elim c.else-c-eq2.branch [
+      | else-c-eq2-via-then-c-eq2+else-h-eq1 b ↦
+          λ K k S e F W. subst (λ (g : ℕ). Known K S g v) (is_set (λ (K : Kind). handle_of K 0 (index K a.h) ≡ a.h) (omega arith) K (omega arith))
+          (placed K S a.words.now a.h _ (p K e) (omega arith) W)
+      | else-c-eq2-via-else-c-eq2 b ↦
+          λ K k S e F W. subst (λ (g : ℕ). Known K S g v)
+          (is_rel (λ (K : Kind). handle_of K 0 (index K a.h) ≡ a.h) _ b.if-c-eq2.false (omega arith) K e)
+          (placed K S a.words.now a.h _ (p K e) (omega arith) W)
+    ]

@@ -4,11 +4,9 @@ use Rattle.memory.proofs.Descending.{descended_low, descended_within, descended_
 use Rattle.memory.proofs.property_words.level.Goals as goal
 
 pub returns-then-g-lt2 : goal.returns-then-g-lt2
-returns-then-g-lt2 c = (λ K B n t e p A b. descended_low c.if-g-lt2.true (c.loop-l.invariant.1 K B n t e p A b), c.loop-l.invariant.0)
+returns-then-g-lt2 c = (λ K B n t e p A b. descended_low c.if-g-lt2.true (c.loop-l.invariant K B n t e p A b), omega arith)
 
 pub loop-l-preserved : goal.loop-l-preserved
-loop-l-preserved c = (
-  omega arith,
-  λ K B n t e p A b. let G = c.loop-l.invariant.1 K B n t e p A b in
-      let o = c.if-g-lt2.false in descended_next o (c.child_of-g.ensures K B n e p (descended_within o G)) G,
-)
+loop-l-preserved c =
+    λ K B n t e p A b. let G = c.loop-l.invariant K B n t e p A b in
+    let o = c.if-g-lt2.false in descended_next o (c.child_of-g.ensures K B n e p (descended_within o G)) G

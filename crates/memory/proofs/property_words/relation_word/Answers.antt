@@ -12,5 +12,5 @@ returns c = relation_gathers (WordsOf rel c.args.words.now) _ c.handle_word-v00.
     (λ k S F W. c.handle_word-v00.ensures rel k S refl F W) (λ k S F W. c.handle_word-v01.ensures rel k S refl F W)
     (λ k S F W. c.handle_word-v10.ensures rel k S refl F W) (λ k S F W. c.handle_word-v11.ensures rel k S refl F W)
     (omega arith) c.if-v01-v00.false c.if-v10-v00.false c.if-v11-v00.false
-    (λ p. c.word_of.ensures.0 p ∙ relation_properties c.both.ensures c.both-2.ensures c.both-3.ensures
+    (λ p. c.word_of.ensures.0 p ∙ relation_properties refl refl refl
     c.shared-on.ensures c.shared-off.ensures)

@@ -1,20 +1,28 @@
 -- `clean` is the test `is_clean`: each step passes one `!`.
 use native.Mathlib.Omega.{arith}
 use mathlib.Core.Path.{sym, ◌∙◌}
-use Rattle.policy_text.proofs.Passes.{clean_none, clean_paren, clean_name, clean_bang, clean_leaf}
+use Rattle.policy_text.proofs.Passes.{clean_none, clean_paren, clean_name, clean_bang, clean_full, clean_leaf}
+use Rattle.policy_text.proofs.negations.clean.Goals.{in_default, in_default-2}
 use Rattle.policy_text.proofs.negations.clean.Goals as goal
 
-pub returns-then-b-eq40 : goal.returns-then-b-eq40
-returns-then-b-eq40 c = c.clean_inside.ensures ∙ sym (c.loop-i.invariant.2 ∙ clean_paren _ _ c.loop-i-test.true c.if-b-eq40.true)
+pub loop-atom-preserved : goal.loop-atom-preserved
+loop-atom-preserved c = c.loop-atom.invariant ∙ clean_bang _ c.in-33.len_at_least (omega arith)
 
-pub returns-then-b-eq120 : goal.returns-then-b-eq120
-returns-then-b-eq120 c = c.is_test.ensures ∙ sym (c.loop-i.invariant.2 ∙ clean_name _ _ c.loop-i-test.true c.if-b-eq40.false c.if-b-eq120.true)
+pub returns-in-40 : goal.returns-in-40
+returns-in-40 c = c.clean_inside.ensures ∙ sym (c.loop-atom.invariant ∙ clean_paren _ c.in-40.len_at_least (omega arith))
 
-pub returns-then-b-ne33 : goal.returns-then-b-ne33
-returns-then-b-ne33 c = sym (c.loop-i.invariant.2 ∙ clean_leaf _ _ c.loop-i-test.true c.if-b-eq40.false c.if-b-eq120.false c.if-b-ne33.true)
+pub returns-in-120 : goal.returns-in-120
+returns-in-120 c = c.is_test.ensures ∙ sym (c.loop-atom.invariant ∙ clean_name _ c.in-120.len_at_least (omega arith))
 
-pub loop-i-preserved : goal.loop-i-preserved
-loop-i-preserved c = (omega arith, omega arith, c.loop-i.invariant.2 ∙ clean_bang _ _ c.loop-i-test.true c.if-b-ne33.false)
+pub returns-in-84 : goal.returns-in-84
+returns-in-84 c = sym (c.loop-atom.invariant ∙ clean_full _ c.in-84.len_at_least (omega arith))
 
-pub returns : goal.returns
-returns c = sym (c.loop-i.invariant.2 ∙ clean_none _ _ (omega arith) c.loop-i.invariant.1)
+pub returns-in_default-atom : goal.returns-in_default-atom
+returns-in_default-atom c = sym (c.loop-atom.invariant ∙ clean_none _ c.in_default-atom.len_below)
+
+pub returns-in_default-atom-2 : goal.returns-in_default-atom-2
+returns-in_default-atom-2 c =
+    sym (c.loop-atom.invariant ∙ clean_leaf _ c.in_default-atom.len_at_least (λ e. omega (arith, e)) (λ e. omega (arith, e)) (λ e. elim c.if-atom-lt1.branch [
+      | in_default w ↦ omega (arith, w.in_default.len_below)
+      | in_default-2 w ↦ omega (arith, e)
+    ]) (λ e. omega (arith, e)))

@@ -1,35 +1,28 @@
 -- `clean_inside` is the test `is_clean_inside`: each step is one byte of it.
 use native.Mathlib.Omega.{arith}
 use mathlib.Core.Path.{sym, ◌∙◌}
-use Rattle.policy_text.proofs.Passes.{open_most, inside_none, inside_colon, inside_star, inside_full, inside_later, inside_closed}
+use mathlib.Core.Logic.{inl, inr}
+use Rattle.policy_text.proofs.Passes.{open_most, inside_none, inside_not, inside_later, inside_closed}
+use Rattle.policy_text.proofs.negations.clean_inside.Goals.{then-b-eq58-via-then-b-eq58, then-b-eq58-via-else-b-eq58+then-star}
+use Rattle.policy_text.proofs.negations.clean_inside.Goals.{then-b-eq58-via-else-b-eq58+else-star+then-full}
 use Rattle.policy_text.proofs.negations.clean_inside.Goals as goal
 
-pub returns-then-i-text : goal.returns-then-i-text
-returns-then-i-text c = sym (c.loop-count.invariant.3 ∙ inside_none _ _ _ c.if-i-text.true)
+pub returns-then-count-eq0 : goal.returns-then-count-eq0
+returns-then-count-eq0 c = sym (c.loop-b.invariant.1 ∙ inside_closed _ _ (omega arith))
 
 pub returns-then-b-eq58 : goal.returns-then-b-eq58
-returns-then-b-eq58 c =
-    sym (c.loop-count.invariant.3 ∙ inside_colon _ _ _ c.loop-count.invariant.1 c.if-i-text.false c.loop-count-test.true c.if-b-eq58.true)
+returns-then-b-eq58 c = sym (c.loop-b.invariant.1 ∙ inside_not _ _ c.loop-b-test.true _ c.if-count-eq0.false (elim c.then-b-eq58.branch [
+  | then-b-eq58-via-then-b-eq58 w ↦ inl w.if-b-eq58.true
+  | then-b-eq58-via-else-b-eq58+then-star w ↦ inr (inl w.if-star.true)
+  | then-b-eq58-via-else-b-eq58+else-star+then-full w ↦ inr (inr w.if-full.true)
+]))
 
-pub returns-then-star : goal.returns-then-star
-returns-then-star c =
-    sym (c.loop-count.invariant.3 ∙ inside_star _ _ _ c.loop-count.invariant.1 c.if-i-text.false c.loop-count-test.true c.if-b-eq58.false
-    c.if-star.true)
-
-pub returns-then-full : goal.returns-then-full
-returns-then-full c =
-    sym (c.loop-count.invariant.3 ∙ inside_full _ _ _ c.loop-count.invariant.1 c.if-i-text.false c.loop-count-test.true c.if-b-eq58.false
-    c.if-star.false c.if-full.true)
-
-pub loop-count-preserved : goal.loop-count-preserved
-loop-count-preserved c = (
-  omega arith,
-  omega arith,
-  (let h = open_most _ _ _ c.opened-count.ensures in omega arith),
-  c.loop-count.invariant.3 ∙ inside_later _ _ _ _
-      c.loop-count.invariant.1 c.if-i-text.false c.loop-count-test.true c.if-b-eq58.false c.if-star.false c.if-full.false
+pub loop-b-preserved : goal.loop-b-preserved
+loop-b-preserved c = (
+  (let h = open_most _ _ _ c.opened-count.ensures in omega (arith, h, c.loop-b.invariant.0)),
+  c.loop-b.invariant.1 ∙ inside_later _ _ c.loop-b-test.true _ _ c.if-count-eq0.false c.if-b-eq58.false c.if-star.false c.if-full.false
       c.opened-count.ensures,
 )
 
 pub returns : goal.returns
-returns c = sym (c.loop-count.invariant.3 ∙ inside_closed _ _ (omega arith))
+returns c = sym (c.loop-b.invariant.1 ∙ inside_none _ _ _ c.loop-b-test.false)

@@ -1,14 +1,15 @@
--- `first_offending` is the first place of the test `does_offend`: each step is one of the search.
-use native.Mathlib.Omega.{arith}
-use mathlib.Core.Path.{sym, ◌∙◌}
-use Rattle.policy_text.proofs.Passes.{first_here, first_later, first_none}
+-- `first_offending` is the first place of the test `does_offend`: what `find` gives of the offsets.
+use Rattle.std.proofs.Common.{rules, tests, arith, length}
+use Rattle.std.proofs.lemmas.Iterator.{YieldsList-from_range}
+use Rattle.std.proofs.lemmas.Iterator.Search.{find_from_yields_List}
+use Rattle.policy_text.specs.Reading.{does_offend}
+use Rattle.policy_text.specs.XForms.{x_forms}
+use Rattle.policy_text.proofs.Passes.{rest, search_is}
 use Rattle.policy_text.proofs.negations.first_offending.Goals as goal
 
-pub returns-then-offends : goal.returns-then-offends
-returns-then-offends c = sym (c.loop-i.invariant.1 ∙ first_here _ _ _ c.loop-i-test.true (sym c.if-offends.true ∙ c.offends.ensures))
-
-pub loop-i-preserved : goal.loop-i-preserved
-loop-i-preserved c = (omega arith, c.loop-i.invariant.1 ∙ first_later _ _ _ c.loop-i-test.true (sym c.if-offends.false ∙ c.offends.ensures))
-
 pub returns : goal.returns
-returns c = sym (c.loop-i.invariant.1 ∙ first_none _ _ _ (omega arith) c.loop-i.invariant.0)
+returns c =
+    let t = c.args.text.now in
+    search_is (does_offend x_forms) t _
+    (find_from_yields_List (λ i. does_offend x_forms (rest t i)) _ _ _ c.find.ensures.ran
+    (YieldsList-from_range 0 (length t) (length t) (cc) (omega arith)) (λ x b q k. search (rules, tests)))

@@ -1,15 +1,14 @@
 -- `opened` counts parentheses as `open_after` does: by the byte.
-use Rattle.policy_text.proofs.Passes.{open_more, open_none, open_fewer, open_same}
+use native.Mathlib.Omega.{arith}
+use mathlib.Core.Path.{◌∙◌}
+use Rattle.policy_text.proofs.Passes.{open_more, open_fewer, open_same}
 use Rattle.policy_text.proofs.negations.opened.Goals as goal
 
-pub returns-then-b-eq40 : goal.returns-then-b-eq40
-returns-then-b-eq40 c = open_more _ _ c.if-b-eq40.true
+pub returns-in-40 : goal.returns-in-40
+returns-in-40 c = open_more _ _ c.in-40.is
 
-pub returns-then-count-eq0 : goal.returns-then-count-eq0
-returns-then-count-eq0 c = open_none _ _ c.if-b-eq41.true c.if-count-eq0.true
+pub returns-in-41 : goal.returns-in-41
+returns-in-41 c = c.saturating_sub.ensures ∙ open_fewer _ _ c.in-41.is
 
-pub returns-then-b-eq41 : goal.returns-then-b-eq41
-returns-then-b-eq41 c = open_fewer _ _ c.if-b-eq41.true
-
-pub returns : goal.returns
-returns c = open_same _ _ c.if-b-eq40.false c.if-b-eq41.false
+pub returns-in_default : goal.returns-in_default
+returns-in_default c = open_same _ _ (λ e. omega (arith, e)) (λ e. omega (arith, e))

@@ -1,5 +1,5 @@
--- `fields` runs its program; the measure is the number of fields.
+-- `fields` runs its program; the measure is the number of fields that are left.
 use Rattle.relations.proofs.fields.+fields.Given as goal
 
 abbrev pub decreases-fields : goal.decreases-fields
-decreases-fields l = l.n
+decreases-fields l = l.left

@@ -6,7 +6,7 @@ use Rattle.replay.proofs.lines.read_numbers.Goals as goal
 pub loop-at-preserved : goal.loop-at-preserved
 loop-at-preserved c =
     let at = c.loop-at in
-    let read = c.in-Is.ensures in
+    let read = c.in_ok-value.ensures in
     let long : at.count < length at.x = omega arith in (
       omega arith,
       read.within,
@@ -15,4 +15,4 @@ loop-at-preserved c =
     )
 
 pub returns : goal.returns
-returns c good = all_read _ _ c.loop-at.at _ (omega arith) c.loop-at.invariant.3
+returns c = record { few = omega arith; all = all_read _ _ c.loop-at.at _ (omega arith) c.loop-at.invariant.3 }

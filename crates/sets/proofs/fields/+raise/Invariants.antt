@@ -2,4 +2,4 @@
 use Rattle.sets.proofs.fields.+raise.Given as goal
 
 abbrev pub decreases-raise : goal.decreases-raise
-decreases-raise l = l.n
+decreases-raise l = l.fields

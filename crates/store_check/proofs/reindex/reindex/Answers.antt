@@ -4,4 +4,4 @@ use Rattle.store_check.proofs.Reindexing.{entered_all}
 use Rattle.store_check.proofs.reindex.reindex.Goals as goal
 
 pub returns : goal.returns
-returns c = entered_all c.empty.ensures c.loop-i.invariant.1 (omega arith)
+returns c = entered_all c.empty.ensures c.loop-i.invariant (omega arith)

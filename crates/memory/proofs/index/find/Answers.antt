@@ -1,5 +1,0 @@
--- `index::find` meets its contract: what `scan` gives needs no index, and `chase` is given the one that there is.
-use Rattle.memory.proofs.index.find.Goals as goal
-
-pub returns : goal.returns
-returns c good ix = c.chase.ensures good c.memo_size-at.ensures.0 ix

@@ -1,0 +1,38 @@
+-- `as_relation` runs the program of its filter; the measure is the level.
+use Rattle.memory.proofs.Remembering.{recalled}
+use Rattle.memory.proofs.Steps.{begin, by, given, called, impossible, performs_on}
+use Rattle.memory.proofs.Stopping.{made, failed, stopped, kept}
+use Rattle.relation_images.proofs.Filtering.{filter_memo, filter_small, filter_left, filter_zero, filter_opened}
+use Rattle.relation_images.proofs.filters.+as_relation.Goals as goal
+
+pub returns-then-p-lt2 : goal.returns-then-p-lt2
+returns-then-p-lt2 g t c j = given (filter_small _ _ _ c.if-p-lt2.true)
+
+pub returns-in-Some : goal.returns-in-Some
+returns-in-Some g t c j =
+    given (recalled _ _ _ _ (filter_memo _ _ _ c.number-number.ensures) (filter_left _ _ _ c.if-p-lt2.false)
+    c.recall.ensures c.in-Some.is)
+
+pub returns-then-level-eq0 : goal.returns-then-level-eq0
+returns-then-level-eq0 g t c j = impossible (by (filter_left _ _ _ c.if-p-lt2.false) (filter_zero _ _ _ c.if-level-eq0.true))
+
+pub returns-in_err-r0 : goal.returns-in_err-r0
+returns-in_err-r0 g t c j =
+    called (filter_opened _ _ _ (filter_left _ _ _ c.if-p-lt2.false) c.if-level-eq0.false c.get-x.ensures)
+    (failed (c.in_err-r0.ensures j) c.from_residual.ensures)
+
+pub returns-in_err-r1 : goal.returns-in_err-r1
+returns-in_err-r1 g t c j =
+    called (filter_opened _ _ _ (filter_left _ _ _ c.if-p-lt2.false) c.if-level-eq0.false c.get-x.ensures)
+    (made (c.in_ok-r0.ensures j) (failed (c.in_err-r1.ensures j) c.from_residual-in_err-r1.ensures))
+
+pub returns-in_err-h : goal.returns-in_err-h
+returns-in_err-h g t c j =
+    called (filter_opened _ _ _ (filter_left _ _ _ c.if-p-lt2.false) c.if-level-eq0.false c.get-x.ensures)
+    (made (c.in_ok-r0.ensures j) (made (c.in_ok-r1.ensures j) (stopped (performs_on c.in_err-h.ensures) c.from_residual-in_err-h.ensures)))
+
+pub returns : goal.returns
+returns g t c j =
+    kept _ _ _ _ (filter_memo _ _ _ c.number-number.ensures) (filter_left _ _ _ c.if-p-lt2.false)
+    (called (filter_opened _ _ _ begin c.if-level-eq0.false c.get-x.ensures)
+    (made (c.in_ok-r0.ensures j) (made (c.in_ok-r1.ensures j) (performs_on c.in_ok-h.ensures)))) c.keep.ensures

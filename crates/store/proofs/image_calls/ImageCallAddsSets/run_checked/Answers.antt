@@ -1,0 +1,77 @@
+-- `run_checked` has the call's outcome: its check declines, or its program runs and `finish` ends it.
+use mathlib.Core.Path.{refl}
+use native.Mathlib.Omega.{arith}
+use Rattle.model.specs.Store.{set, rel}
+use Rattle.store_check.specs.Memory.{memories}
+use Rattle.call_rules.proofs.CallSteps.{adding_declined, adding_low, adding_within, adding_ran}
+use Rattle.store.proofs.ImageSteps.{image_adding}
+use Rattle.call_rules.proofs.Outcomes.{finished_ends}
+use Rattle.call_rules.proofs.Running.{both_here, other_here}
+use Rattle.store.proofs.Arms.{declined_as}
+use Rattle.store.proofs.image_calls.ImageCallAddsSets.run_checked.Goals as goal
+
+pub bounds-relations-0 : goal.bounds-relations-0
+bounds-relations-0 c = let h = (c.requires.store.room rel).headed in omega arith
+
+pub bounds-relations-1 : goal.bounds-relations-1
+bounds-relations-1 c = let h = (c.requires.store.room rel).headed in omega arith
+
+pub bounds-sets-0 : goal.bounds-sets-0
+bounds-sets-0 c = let h = (c.requires.store.room set).headed in omega arith
+
+pub slice_bounds-check-count : goal.slice_bounds-check-count
+slice_bounds-check-count c = let h = (c.requires.store.room rel).headed in omega arith
+
+pub slice_bounds-check-start : goal.slice_bounds-check-start
+slice_bounds-check-start c = let h = (c.requires.store.room rel).headed in omega arith
+
+pub slice_bounds-check-count-2 : goal.slice_bounds-check-count-2
+slice_bounds-check-count-2 c = let h = (c.requires.store.room set).headed in omega arith
+
+pub slice_bounds-check-start-2 : goal.slice_bounds-check-start-2
+slice_bounds-check-start-2 c = let h = (c.requires.store.room set).headed in omega arith
+
+pub slice_bounds-perform-count : goal.slice_bounds-perform-count
+slice_bounds-perform-count c = let h = (c.requires.store.room rel).headed in omega arith
+
+pub slice_bounds-perform-start : goal.slice_bounds-perform-start
+slice_bounds-perform-start c = let h = (c.requires.store.room rel).headed in omega arith
+
+pub slice_bounds-perform-count-2 : goal.slice_bounds-perform-count-2
+slice_bounds-perform-count-2 c = let h = (c.requires.store.room set).headed in omega arith
+
+pub slice_bounds-perform-start-2 : goal.slice_bounds-perform-start-2
+slice_bounds-perform-start-2 c = let h = (c.requires.store.room set).headed in omega arith
+
+pub overflow_cast-level : goal.overflow_cast-level
+overflow_cast-level c =
+    let h = adding_low set (memories c.args.relations.now c.args.sets.now) c.args.work.now c.requires _
+    refl
+    (image_adding c.args.self) _ (both_here _ c.requires.store refl refl
+    c.check.ensures) _ c.in_ok-level.was in
+    omega arith
+
+pub finish-requires : goal.finish-requires
+finish-requires c =
+    let t = adding_within set (memories c.args.relations.now c.args.sets.now) c.args.work.now c.requires _
+    refl
+    (image_adding c.args.self) _ (both_here _ c.requires.store refl refl
+    c.check.ensures) _ c.in_ok-level.was
+    (other_here _ c.requires.store set _ refl) _ _ _ _ c.perform-made.new.n c.perform-made.result refl refl
+    (c.perform-made.ensures _) in (omega arith, t.0, t.1, t.2)
+
+pub returns-in_err-level : goal.returns-in_err-level
+returns-in_err-level c =
+    declined_as _ _ c.from_residual.ensures.1 (adding_declined set (memories c.args.relations.now c.args.sets.now) c.args.work.now c.requires _
+    refl
+    (image_adding c.args.self) _ (both_here _ c.requires.store refl refl
+    c.check.ensures) _ c.in_err-level.was)
+
+pub returns : goal.returns
+returns c =
+    adding_ran set (memories c.args.relations.now c.args.sets.now) c.args.work.now c.requires _
+    refl
+    (image_adding c.args.self) _ (both_here _ c.requires.store refl refl
+    c.check.ensures) _ c.in_ok-level.was
+    (other_here _ c.requires.store set _ refl) _ _ _ _ c.perform-made.new.n c.perform-made.result refl refl
+    (c.perform-made.ensures _) _ _ c.finish.ensures.committed (finished_ends _ _ _ c.finish.ensures)
