@@ -63,8 +63,8 @@ pub fn first_member(sets: &[u32], work: &[u32], level: u8, p: u32) -> u32
     in_second_half(r1, below)
 }
 
-// The rank of the first packet of a set from the rank `from` on; 2^level, as `none_at` has it, where there is none. It goes down along `from`, and where the half that has `from`
-// has none left, to the first packet of the other. An empty set ends at once, so that it calls itself at most four times a level.
+// The rank of the first packet of a set from the rank `from` on; 2^level, as `none_at` has it, where there is none. It goes down along `from`, and where the
+// half that has `from` has none left, to the first packet of the other. An empty set ends at once, so that it calls itself at most four times a level.
 pub fn first_from(sets: &[u32], work: &[u32], level: u8, p: u32, from: u64) -> u64
     requires { level ≤ 32 }
     ensures small { result ≤ 2 ^ level }

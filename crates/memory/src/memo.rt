@@ -1,5 +1,6 @@
-// The memo: a lossy cache of results, an entry two numbers of lent memory, 0 where there is none. An operation may stand in twelve entries, its window. Where all are taken, one of the lowest
-// level gives way: it is the soonest made again, and asked for least once the level above is complete (docs/DECISIONS.md, Speed).
+// The memo: a lossy cache of results, an entry two numbers of lent memory, 0 where there is none. An operation may stand in twelve entries, its window. Where
+// all are taken, one of the lowest level gives way: it is the soonest made again, and asked for least once the level above is complete (docs/DECISIONS.md,
+// Speed).
 ghost use Rattle.std.specs.Prelude.{◌≡◌, true, false, IfSome, ◌+◌, ◌*◌, ◌/◌, ◌%◌, ◌<◌, ◌≤◌, length, get_or};
 ghost use Rattle.model.specs.Store.{Store};
 ghost use Rattle.model.specs.Programs.{run, ran};

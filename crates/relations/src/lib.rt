@@ -27,7 +27,8 @@ pub struct SPPnode {
     pub x11: u32,
 }
 
-// What shortcuts know (three cases, so no shape of Option or Result) where another operation may answer: the answer, the operand of that operation, or the operands to recurse on.
+// What shortcuts know where another operation may answer: the answer, the operand of that operation, or the operands to recurse on. Three cases, so no shape of
+// Option or Result.
 #[derive(Clone, Copy)]
 pub enum Shortcut {
     Answer(u32),

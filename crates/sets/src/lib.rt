@@ -173,8 +173,8 @@ pub fn is_zero(nodes: &[u32], work: &[u32], level: u8, a: u32) -> bool
     set_properties(nodes, work, level, a).empty
 }
 
-// What the properties of two sets, or the memo, know of whether they share a packet, 1 or 0 as the memo has it. Each test has an answer of its own, so they stand
-// one by one.
+// What the properties of two sets, or the memo, know of whether they share a packet, 1 or 0 as the memo has it. Each test has an answer of its own, so they
+// stand one by one.
 fn intersects_tests(nodes: &[u32], work: &[u32], level: u8, a: u32, b: u32) -> Lookup
     ensures { LooksUp set (intersects_tests level a b (node2 intersects_op level)) (node2 intersects_op level)
         nodes.now work.now result }

@@ -132,7 +132,8 @@ fn both_fit(
     nodes_fit(second, work, c2, k, n2)
 }
 
-// Whether both memories are a store; the index is then of the sets' nodes where `last` is true, else of the relations' (a flag, since its clause may not change).
+// Whether both memories are a store; the index is then of the sets' nodes where `last` is true, else of the relations' (a flag, since its clause may not
+// change).
 pub fn is_store(relations: &[u32], sets: &[u32], work: &mut [u32], last: bool) -> bool
     ensures { StoreChecked (memories relations.now sets.now) last work.old work.new result }
 {
