@@ -1,4 +1,4 @@
--- A handle's children are numbers of the slice: what `child_of` reads, and what it says of all children of a handle.
+-- A handle's children are numbers of the slice: what `child_among` reads, and what it says of all children of a handle.
 use mathlib.Core.Path.{◌≡◌, refl, sym, ap, ◌∙◌, subst}
 use mathlib.Core.List.{List, []}
 use mathlib.Core.Bool.{Bool, true, false, ◌&&◌}
@@ -32,7 +32,7 @@ child_at K B m n h d room w p =
     let f : c * i + c ≤ length m = omega (arith, row_within c i n l, places_fit c m n room) in
     rw e (turned_at K (h % 2) d (row c m i) (omega (arith, row_length c m i f)) ∙ ap (turned K (h % 2)) (row_at c m i d p))
 
--- what `child_of` gives for the place i of h
+-- what `child_among` gives for the place i of h
 module _ (K : Kind) (B : Store) (m : List ℕ) (c n h d i : ℕ) (a : c ≡ arity K) (room : n ≤ places c m) (w : Within K (plain K B m n) h)
     (p : d < c) (q : i ≡ index K h) where
   child_is : child K (plain K B m n) h d ≡ turned K (h % 2) (get_or m (c * i + d) 0)

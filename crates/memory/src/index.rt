@@ -58,6 +58,22 @@ pub fn hash(x: &[u32]) -> usize
     bucket(number(x, 0), number(x, 1), number(x, 2), number(x, 3))
 }
 
+// Whether two slices hold the same numbers. By hand: `==` of slices is a call for each pair (docs/DECISIONS.md, Speed).
+fn equal(a: &[u32], b: &[u32]) -> bool
+    ensures yes { result ≡ true → a.now ≡ b.now }
+    ensures no { result ≡ false → a.now ≡ b.now → ⊥ }
+{
+    if a.len() != b.len() {
+        return false;
+    }
+    for j in 0..a.len() {
+        if a[j] != b[j] {
+            return false;
+        }
+    }
+    true
+}
+
 // A node's numbers as they are handed on: a slice, or a relation's four one by one (relation_node).
 pub(crate) trait Numbers: Copy {
     ghost list: { Self → List ℕ };
@@ -96,7 +112,7 @@ impl<'a> Numbers for &'a [u32] {
 
     fn is_at(self, nodes: &[u32], i: usize) -> bool {
         let b = self.len() * i;
-        &nodes[b..b + self.len()] == self
+        equal(&nodes[b..b + self.len()], self)
     }
 
     fn hash(self) -> usize {

@@ -1,6 +1,6 @@
 // Property words: what is known of a handle without looking at its nodes, and the walk where nothing is known. A word is a number of the lent working memory,
 // where 0 says nothing (specs/Working), and is handed on as that number, of which the contracts speak.
-ghost use Rattle.std.specs.Prelude.{◌≡◌, List, [], ◌∷◌, Bool, true, false, ◌&&◌, ℕ, ◌+◌, ◌<◌, ◌≤◌, min, length, get_or, eqb};
+ghost use Rattle.std.specs.Prelude.{◌≡◌, List, [], ◌∷◌, Bool, true, false, ◌&&◌, ℕ, ◌+◌, ◌/◌, ◌<◌, ◌≤◌, min, length, get_or, eqb};
 ghost use Rattle.model.specs.Store.{Kind, set, rel, arity, Store, pick, index, get, signed};
 ghost use Rattle.model.specs.WellFormed.{Held, WellFormed};
 ghost use Rattle.model.specs.Safety.{Within};
@@ -212,8 +212,16 @@ pub fn child_of(nodes: &[u32], c: usize, h: u32, d: usize) -> u32
     requires { d < c }
     ensures { ChildOf nodes.now c h d result }
 {
+    child_among(nodes, nodes.len() / c, c, h, d)
+}
+
+// The same, of as many nodes as the slice has places for: a walk divides once, and not at each step (docs/DECISIONS.md, Speed).
+fn child_among(nodes: &[u32], places: usize, c: usize, h: u32, d: usize) -> u32
+    requires { (d < c) × (places ≡ length nodes.now / c) }
+    ensures { ChildOf nodes.now c h d result }
+{
     let i = place_of(c, h);
-    if i >= nodes.len() / c {
+    if i >= places {
         return 0;
     }
     let x = nodes[c * i + d];
@@ -334,12 +342,13 @@ pub fn level(nodes: &[u32], c: usize, k: u32, h: u32) -> u32
     requires { 0 < c }
     ensures { LevelIs nodes.now c k h result × (result ≤ k) }
 {
+    let places = nodes.len() / c;
     let mut g = h;
     for l in 0..k {
         if g < 2 {
             return l;
         }
-        g = child_of(nodes, c, g, 0);
+        g = child_among(nodes, places, c, g, 0);
     }
     k
 }

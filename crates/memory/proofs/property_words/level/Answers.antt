@@ -9,4 +9,4 @@ returns-then-g-lt2 c = (λ K B n t e p A b. descended_low c.if-g-lt2.true (c.loo
 pub loop-l-preserved : goal.loop-l-preserved
 loop-l-preserved c =
     λ K B n t e p A b. let G = c.loop-l.invariant K B n t e p A b in
-    let o = c.if-g-lt2.false in descended_next o (c.child_of-g.ensures K B n e p (descended_within o G)) G
+    let o = c.if-g-lt2.false in descended_next o (c.child_among-g.ensures K B n e p (descended_within o G)) G
