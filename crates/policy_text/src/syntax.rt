@@ -4,8 +4,8 @@ ghost use Rattle.std.specs.Prelude.{◌≡◌, Bool, ℕ, ◌≤◌, [], ◌∷�
 ghost use Rattle.policy_text.specs.XForms.{x_forms};
 ghost use Rattle.policy_text.specs.Machine.{inside, need, spelt, bit, reads};
 ghost use Rattle.policy_text.specs.Misreads.{misread};
-ghost use Rattle.policy_text.specs.Posts.{ByteAt, DeeperAt, AtomPost, RelationPost, JoinPost, StarsPost, continues_starred, continues_part, continues_rank};
-ghost use Rattle.policy_text.specs.Posts.{read_of};
+ghost use Rattle.policy_text.specs.Posts.{ByteAt, DeeperAt, AtomPost, RelationPost, JoinPost, StarsPost, continues_starred, continues_product};
+ghost use Rattle.policy_text.specs.Posts.{continues_term, continues_sum, read_of};
 ghost use Rattle.policy_text.specs.declared.Fault.{Fault};
 
 use super::{Fault, Misread, Rank};
@@ -92,7 +92,7 @@ fn stars(text: &[u8], at: usize) -> usize
     at + text[at..].iter().take_while(|b| **b == b'*').count()
 }
 
-#[cycle(atom_starred_part_joined)]
+#[cycle(atom_starred_product_term_sum)]
 fn atom(text: &[u8], at: usize, depth: u32) -> Result<usize, Misread>
     ensures { AtomPost x_forms text.now depth need at result }
 {
@@ -105,7 +105,7 @@ fn atom(text: &[u8], at: usize, depth: u32) -> Result<usize, Misread>
         }
         b'(' => {
             let inner = deeper(at, depth)?;
-            let end = joined(Rank::Sum, text, at + 1, inner)?;
+            let end = sum(text, at + 1, inner)?;
             // A local, since an edit of must-fail changes this test, and a goal is named after what its test compares.
             let closes = byte(text, end)? == b')';
             if closes {
@@ -117,7 +117,7 @@ fn atom(text: &[u8], at: usize, depth: u32) -> Result<usize, Misread>
     }
 }
 
-#[cycle(atom_starred_part_joined)]
+#[cycle(atom_starred_product_term_sum)]
 fn starred(text: &[u8], at: usize, depth: u32) -> Result<usize, Misread>
     ensures { JoinPost x_forms continues_starred text.now depth at result }
 {
@@ -125,27 +125,38 @@ fn starred(text: &[u8], at: usize, depth: u32) -> Result<usize, Misread>
     Ok(stars(text, end))
 }
 
-// A part of a rank.
-#[cycle(atom_starred_part_joined)]
-fn part(rank: Rank, text: &[u8], at: usize, depth: u32) -> Result<usize, Misread>
-    ensures { JoinPost x_forms (continues_part rank) text.now depth at result }
+// A product, a term and a sum are a function each: one over the rank calls itself at each `(`, which the compiler does not take into `atom` as it takes these
+// three (docs/DECISIONS.md, Speed). Each turn goes on by as much as a part reads, by a call that may refuse, so no iterator gives its steps. The text stays and
+// offset and depth change at each call, so they are parameters of their own.
+#[cycle(atom_starred_product_term_sum)]
+fn product(text: &[u8], at: usize, depth: u32) -> Result<usize, Misread>
+    ensures { JoinPost x_forms continues_product text.now depth at result }
 {
-    match rank {
-        Rank::Product => starred(text, at, depth),
-        Rank::Term => joined(Rank::Product, text, at, depth),
-        Rank::Sum => joined(Rank::Term, text, at, depth),
+    let mut end = starred(text, at, depth)?;
+    while end < text.len() && Rank::Product.joins(text[end]) {
+        end = starred(text, end + 1, depth)?;
     }
+    Ok(end)
 }
 
-// A rank: its parts, joined. Each turn goes on by as much as a part reads, by a call that may refuse, so no iterator gives its steps. The text stays and offset
-// and depth change at each call, so they are parameters of their own.
-#[cycle(atom_starred_part_joined)]
-fn joined(rank: Rank, text: &[u8], at: usize, depth: u32) -> Result<usize, Misread>
-    ensures { JoinPost x_forms (continues_rank rank) text.now depth at result }
+#[cycle(atom_starred_product_term_sum)]
+fn term(text: &[u8], at: usize, depth: u32) -> Result<usize, Misread>
+    ensures { JoinPost x_forms continues_term text.now depth at result }
 {
-    let mut end = part(rank, text, at, depth)?;
-    while end < text.len() && rank.joins(text[end]) {
-        end = part(rank, text, end + 1, depth)?;
+    let mut end = product(text, at, depth)?;
+    while end < text.len() && Rank::Term.joins(text[end]) {
+        end = product(text, end + 1, depth)?;
+    }
+    Ok(end)
+}
+
+#[cycle(atom_starred_product_term_sum)]
+fn sum(text: &[u8], at: usize, depth: u32) -> Result<usize, Misread>
+    ensures { JoinPost x_forms continues_sum text.now depth at result }
+{
+    let mut end = term(text, at, depth)?;
+    while end < text.len() && Rank::Sum.joins(text[end]) {
+        end = term(text, end + 1, depth)?;
     }
     Ok(end)
 }
@@ -154,7 +165,7 @@ fn joined(rank: Rank, text: &[u8], at: usize, depth: u32) -> Result<usize, Misre
 pub(crate) fn check(text: &[u8]) -> Result<(), Misread>
     ensures { result ≡ read_of (reads x_forms text.now) }
 {
-    let end = joined(Rank::Sum, text, 0, 0)?;
+    let end = sum(text, 0, 0)?;
     if end == text.len() {
         return Ok(());
     }

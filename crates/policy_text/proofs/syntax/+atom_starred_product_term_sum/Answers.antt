@@ -9,11 +9,12 @@ use Prim.Native.Nat.{ℕ}
 use Rattle.std.proofs.Common.{rules, Err}
 use Rattle.policy_text.specs.XForms.{does_x_begin, x_forms}
 use Rattle.policy_text.specs.Machine.{inside, spelt, need, final, byte_step}
+use Rattle.policy_text.specs.declared.Rank.{Rank}
 use Rattle.policy_text.proofs.Moves.{atom_end, atom_go, atom_leaf, atom_none, atom_bang, atom_over, paren_refused, paren_closed, paren_ends, paren_stops}
 use Rattle.policy_text.proofs.Moves.{join_stars, join_atom_refused, join_refused, join_from, join_in, atom_in, rank_ends, rank_more}
-use Rattle.policy_text.proofs.syntax.+atom_starred_part_joined.Goals.{atom-in-84-1, atom-in_default+else-this-lt48+then-this-lt50}
-use Rattle.policy_text.proofs.syntax.+atom_starred_part_joined.Goals.{atom-in_default-via-then-this-lt48, atom-in_default-via-else-this-lt48+else-this-lt50}
-use Rattle.policy_text.proofs.syntax.+atom_starred_part_joined.Goals as goal
+use Rattle.policy_text.proofs.syntax.+atom_starred_product_term_sum.Goals.{atom-in-84-1, atom-in_default+else-this-lt48+then-this-lt50}
+use Rattle.policy_text.proofs.syntax.+atom_starred_product_term_sum.Goals.{atom-in_default-via-then-this-lt48, atom-in_default-via-else-this-lt48+else-this-lt50}
+use Rattle.policy_text.proofs.syntax.+atom_starred_product_term_sum.Goals as goal
 
 pub atom-returns-in_err-byte : goal.atom-returns-in_err-byte
 unfolding final
@@ -92,35 +93,95 @@ atom-returns-in_default t c =
       λ e. omega (arith, e, b.1),
     )
 
-pub joined-returns-in_err-end : goal.joined-returns-in_err-end
-joined-returns-in_err-end t c =
+pub product-returns-in_err-end : goal.product-returns-in_err-end
+product-returns-in_err-end t c =
     let e : c.from_residual.result ≡ Err c.in_err-end.field-0.0 = search rules in
     join_refused _ _ _ _ _ _ _ _ e c.in_err-end.ensures
 
-pub joined-part-requires-in-loop-end : goal.joined-part-requires-in-loop-end
-joined-part-requires-in-loop-end t c = let from = join_from _ _ _ _ _ _ c.loop-end.invariant in omega arith
+pub product-starred-requires-in-loop-end : goal.product-starred-requires-in-loop-end
+product-starred-requires-in-loop-end t c = let from = join_from _ _ _ _ _ _ c.loop-end.invariant in omega arith
 
-pub joined-returns-in_err-end-2 : goal.joined-returns-in_err-end-2
-joined-returns-in_err-end-2 t c =
+pub product-returns-in_err-end-2 : goal.product-returns-in_err-end-2
+product-returns-in_err-end-2 t c =
     let e : c.from_residual-in_err-end-2.result ≡ Err c.in_err-end-2.field-0.0 = search rules in
     join_refused _ _ _ _ _ _ _ _ e
-    (rank_more _ _ c.args.rank _ _ _ _ _ c.loop-end-test.true (sym c.if-joins.true ∙ c.joins.ensures) c.loop-end.invariant c.in_err-end-2.ensures)
+    (rank_more _ _ Rank.Product _ _ _ _ _ c.loop-end-test.true (sym c.if-joins.true ∙ c.joins.ensures) c.loop-end.invariant c.in_err-end-2.ensures)
 
-pub joined-loop-end-smaller : goal.joined-loop-end-smaller
-joined-loop-end-smaller t c =
+pub product-loop-end-smaller : goal.product-loop-end-smaller
+product-loop-end-smaller t c =
     let from = join_from _ _ _ _ _ _ c.in_ok-end-2.ensures in
     let within = join_in _ _ _ _ _ _ c.in_ok-end-2.ensures in
     omega arith
 
-pub joined-loop-end-preserved : goal.joined-loop-end-preserved
-joined-loop-end-preserved t c =
-    rank_more _ _ c.args.rank _ _ _ _ _ c.loop-end-test.true (sym c.if-joins.true ∙ c.joins.ensures) c.loop-end.invariant c.in_ok-end-2.ensures
+pub product-loop-end-preserved : goal.product-loop-end-preserved
+product-loop-end-preserved t c =
+    rank_more _ _ Rank.Product _ _ _ _ _ c.loop-end-test.true (sym c.if-joins.true ∙ c.joins.ensures) c.loop-end.invariant c.in_ok-end-2.ensures
 
-pub joined-returns-else-joins : goal.joined-returns-else-joins
-joined-returns-else-joins t c = rank_ends _ _ c.args.rank _ _ _ (λ l. sym c.joins.ensures ∙ c.if-joins.false) c.loop-end.invariant
+pub product-returns-else-joins : goal.product-returns-else-joins
+product-returns-else-joins t c = rank_ends _ _ Rank.Product _ _ _ (λ l. sym c.joins.ensures ∙ c.if-joins.false) c.loop-end.invariant
 
-pub joined-returns-after-loop-end : goal.joined-returns-after-loop-end
-joined-returns-after-loop-end t c = rank_ends _ _ c.args.rank _ _ _ (λ l. absurd (omega arith)) c.loop-end.invariant
+pub product-returns-after-loop-end : goal.product-returns-after-loop-end
+product-returns-after-loop-end t c = rank_ends _ _ Rank.Product _ _ _ (λ l. absurd (omega arith)) c.loop-end.invariant
+
+pub term-returns-in_err-end : goal.term-returns-in_err-end
+term-returns-in_err-end t c =
+    let e : c.from_residual.result ≡ Err c.in_err-end.field-0.0 = search rules in
+    join_refused _ _ _ _ _ _ _ _ e c.in_err-end.ensures
+
+pub term-product-requires-in-loop-end : goal.term-product-requires-in-loop-end
+term-product-requires-in-loop-end t c = let from = join_from _ _ _ _ _ _ c.loop-end.invariant in omega arith
+
+pub term-returns-in_err-end-2 : goal.term-returns-in_err-end-2
+term-returns-in_err-end-2 t c =
+    let e : c.from_residual-in_err-end-2.result ≡ Err c.in_err-end-2.field-0.0 = search rules in
+    join_refused _ _ _ _ _ _ _ _ e
+    (rank_more _ _ Rank.Term _ _ _ _ _ c.loop-end-test.true (sym c.if-joins.true ∙ c.joins.ensures) c.loop-end.invariant c.in_err-end-2.ensures)
+
+pub term-loop-end-smaller : goal.term-loop-end-smaller
+term-loop-end-smaller t c =
+    let from = join_from _ _ _ _ _ _ c.in_ok-end-2.ensures in
+    let within = join_in _ _ _ _ _ _ c.in_ok-end-2.ensures in
+    omega arith
+
+pub term-loop-end-preserved : goal.term-loop-end-preserved
+term-loop-end-preserved t c =
+    rank_more _ _ Rank.Term _ _ _ _ _ c.loop-end-test.true (sym c.if-joins.true ∙ c.joins.ensures) c.loop-end.invariant c.in_ok-end-2.ensures
+
+pub term-returns-else-joins : goal.term-returns-else-joins
+term-returns-else-joins t c = rank_ends _ _ Rank.Term _ _ _ (λ l. sym c.joins.ensures ∙ c.if-joins.false) c.loop-end.invariant
+
+pub term-returns-after-loop-end : goal.term-returns-after-loop-end
+term-returns-after-loop-end t c = rank_ends _ _ Rank.Term _ _ _ (λ l. absurd (omega arith)) c.loop-end.invariant
+
+pub sum-returns-in_err-end : goal.sum-returns-in_err-end
+sum-returns-in_err-end t c =
+    let e : c.from_residual.result ≡ Err c.in_err-end.field-0.0 = search rules in
+    join_refused _ _ _ _ _ _ _ _ e c.in_err-end.ensures
+
+pub sum-term-requires-in-loop-end : goal.sum-term-requires-in-loop-end
+sum-term-requires-in-loop-end t c = let from = join_from _ _ _ _ _ _ c.loop-end.invariant in omega arith
+
+pub sum-returns-in_err-end-2 : goal.sum-returns-in_err-end-2
+sum-returns-in_err-end-2 t c =
+    let e : c.from_residual-in_err-end-2.result ≡ Err c.in_err-end-2.field-0.0 = search rules in
+    join_refused _ _ _ _ _ _ _ _ e
+    (rank_more _ _ Rank.Sum _ _ _ _ _ c.loop-end-test.true (sym c.if-joins.true ∙ c.joins.ensures) c.loop-end.invariant c.in_err-end-2.ensures)
+
+pub sum-loop-end-smaller : goal.sum-loop-end-smaller
+sum-loop-end-smaller t c =
+    let from = join_from _ _ _ _ _ _ c.in_ok-end-2.ensures in
+    let within = join_in _ _ _ _ _ _ c.in_ok-end-2.ensures in
+    omega arith
+
+pub sum-loop-end-preserved : goal.sum-loop-end-preserved
+sum-loop-end-preserved t c =
+    rank_more _ _ Rank.Sum _ _ _ _ _ c.loop-end-test.true (sym c.if-joins.true ∙ c.joins.ensures) c.loop-end.invariant c.in_ok-end-2.ensures
+
+pub sum-returns-else-joins : goal.sum-returns-else-joins
+sum-returns-else-joins t c = rank_ends _ _ Rank.Sum _ _ _ (λ l. sym c.joins.ensures ∙ c.if-joins.false) c.loop-end.invariant
+
+pub sum-returns-after-loop-end : goal.sum-returns-after-loop-end
+sum-returns-after-loop-end t c = rank_ends _ _ Rank.Sum _ _ _ (λ l. absurd (omega arith)) c.loop-end.invariant
 
 pub starred-returns-in_err-end : goal.starred-returns-in_err-end
 starred-returns-in_err-end t c =
