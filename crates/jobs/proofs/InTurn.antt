@@ -15,6 +15,7 @@ use Rattle.model.proofs.Bools.{by_test}
 use Rattle.store_check.specs.Memory.{Memories}
 use Rattle.store_check.specs.Valid.{is_store}
 use Rattle.call_rules.specs.Added.{held_in, less, counted}
+use Rattle.call_rules.specs.Answers.{refusal_number}
 use Rattle.call_rules.specs.Outcome.{Outcome, outcome}
 use Rattle.call_rules.specs.declared.Answer.{Answer}
 use Rattle.call_rules.specs.declared.Refusal.{Refusal}
@@ -113,9 +114,9 @@ named_at ys i n h = by_test (λ b. ltb n i ≡ b → get_or ys (pick b n i) no_j
     (λ _ e. let l : i ≤ n = ltb-false n i e in sym (get_or-eq_default (take i ys) (get_or ys i no_job) (omega (arith, length-take i ys, l))))
     refl
 
--- by the two tests that decline a whole call: its turns, or why it is declined
-abbrev judged_by : Bool → Bool → ℕ → Result ℕ Refusal
-judged_by z y n = pick z (pick y (Ok n) (Err OutOfRange)) (Err NotStore)
+-- by the two tests that decline a whole call: its turns, or the number that it is declined with
+abbrev judged_by : Bool → Bool → ℕ → Result ℕ ℕ
+judged_by z y n = pick z (pick y (Ok n) (Err (refusal_number OutOfRange))) (Err (refusal_number NotStore))
 
 -- the turns that a call on n jobs has, none where it is declined
 abbrev pub turns_of : Memories → ℕ → ℕ

@@ -6,7 +6,6 @@ use Rattle.store_check.specs.Valid.{is_store}
 use Rattle.call_rules.specs.Added.{held_in, less}
 use Rattle.call_rules.specs.Answers.{refusal_number}
 use Rattle.call_rules.specs.Outcome.{outcome}
-use Rattle.call_rules.specs.declared.Refusal.{Refusal}
 use Rattle.call_rules.specs.declared.Refusal.TheVariants.{NotStore, OutOfRange}
 use Rattle.packing.specs.Packed.{with_added}
 use Rattle.packing.specs.declared.AddedReply.{AddedReply}
@@ -63,17 +62,17 @@ pub record TakesTurn (n : ℕ) (j a b c : Job) (M M' : Memories) (w w' : List �
   pub held_is : r.tally.held ≡ held_in M'
   pub zeros_stay : w ≡ zeros w → w' ≡ zeros w
 
--- how a call begins on n jobs: its turns, or why it is declined
-abbrev pub judged : Memories → ℕ → Result ℕ Refusal
-judged M n = pick (is_store M) (pick (leb n most_jobs) (Ok n) (Err OutOfRange)) (Err NotStore)
+-- how a call begins on n jobs: its turns, or the number that it is declined with
+abbrev pub judged : Memories → ℕ → Result ℕ ℕ
+judged M n = pick (is_store M) (pick (leb n most_jobs) (Ok n) (Err (refusal_number OutOfRange))) (Err (refusal_number NotStore))
 
 abbrev pub begun_of : Memories → ℕ → ℕ → Begun
 begun_of M n limit = record { turns = judged M n; tally = record { left = limit; held = held_in M } }
 
 -- how it ends: the number n of jobs run, or the refusal in the high half, and the nodes added
-abbrev pub in_halves : Result ℕ Refusal → ℕ → ℕ
+abbrev pub in_halves : Result ℕ ℕ → ℕ → ℕ
 in_halves (Ok m) n = n
-in_halves (Err r) n = refusal_number r * 2 ^ 32
+in_halves (Err r) n = r * 2 ^ 32
 
 abbrev pub concluded : Begun → Tally → AddedReply
 concluded b t = with_added (in_halves b.turns (b.tally.left - t.left)) (less t.held b.tally.held)

@@ -11,10 +11,11 @@ use packing::{AddedReply, with_added};
 // The most jobs of a list.
 const MOST: usize = 256;
 
-// The turns that a call has, or why it is declined, and the tally at its first turn.
+// The turns that a call has, or the number of its refusal, and the tally at its first turn. A number: `conclude` takes any that a call may be declined
+// with, and `Refusal` names seven.
 #[derive(Clone, Copy)]
 pub struct Begun {
-    pub turns: Result<usize, Refusal>,
+    pub turns: Result<usize, u32>,
     pub tally: Tally,
 }
 
@@ -36,9 +37,9 @@ pub fn begin(
     let is_good = store_check::is_store(relations, sets, work, false);
     work.fill(0);
     let turns = if !is_good {
-        Err(Refusal::NotStore)
+        Err(u32::from(Refusal::NotStore))
     } else if jobs > MOST {
-        Err(Refusal::OutOfRange)
+        Err(u32::from(Refusal::OutOfRange))
     } else {
         Ok(jobs)
     };
@@ -52,6 +53,6 @@ pub fn conclude(begun: Begun, tally: Tally) -> AddedReply
     let added = since(begun.tally.held, tally.held);
     match begun.turns {
         Ok(_) => with_added(begun.tally.left.saturating_sub(tally.left) as u64, added),
-        Err(refusal) => with_added(u32::from(refusal) as u64 * 0x1_0000_0000, added),
+        Err(refusal) => with_added(refusal as u64 * 0x1_0000_0000, added),
     }
 }
