@@ -17,7 +17,7 @@ use Rattle.memory.proofs.Steps.{begin, by, yes, no, looked, less_says, performs_
 use Rattle.relation_images.specs.Ends.{in_order, range_op, range_number, range, image, image_node, image_number}
 
 -- RANGE
-range_is : (e : Bool) (l a : ℕ) → range e l a ≡ ask (less a 2) (ret a) (node1 (range_op e) l a)
+pub range_is : (e : Bool) (l a : ℕ) → range e l a ≡ ask (less a 2) (ret a) (node1 (range_op e) l a)
 unfolding fwd bwd op1
 range_is true l a = refl
 range_is false l a = refl

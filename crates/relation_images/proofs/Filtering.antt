@@ -15,7 +15,7 @@ use Rattle.memory.proofs.OtherNodes.{read_of_other}
 use Rattle.memory.proofs.Steps.{begin, by, yes, no, less_says}
 use Rattle.relation_images.specs.Filters.{filter, filter_op, filter_number, filter_node}
 
-filter_is : (d : Bool) (l p : ℕ) → filter d l p ≡ ask (less p 2) (ret p) (node1 (filter_op d) l p)
+pub filter_is : (d : Bool) (l p : ℕ) → filter d l p ≡ ask (less p 2) (ret p) (node1 (filter_op d) l p)
 unfolding ifwd diagonal op1
 filter_is true l p = refl
 filter_is false l p = refl
