@@ -193,9 +193,11 @@ class Source:
         text = "\n".join(lines)
         for line in re.findall(r"^ghost (use .*);$", text, re.M):
             self.use(line)
-        for path in re.findall(r"^use ([\w:]+);$", text, re.M):
-            self.aliases[path.split("::")[-1]] = path
-        for kind, name, body in re.findall(r"^(?:pub(?:\(crate\))? )?(struct|enum) (\w+) \{\n(.*?)^\}", text, re.M | re.S):
+        for path, names in re.findall(r"^use ([\w:]+?)(?:::\{(.*?)\})?;$", text, re.M | re.S):
+            for name in re.findall(r"[\w:]+", names) or ["self"]:
+                full = path if name == "self" else path + "::" + name
+                self.aliases[full.split("::")[-1]] = full
+        for kind, name, body in re.findall(r"^(?:pub(?:\(crate\))? )?(struct|enum) (\w+)(?:<[^>\n]*>)? \{\n(.*?)^\}", text, re.M | re.S):
             types = " ".join(re.findall(r": (.*)," if kind == "struct" else r"\((.*)\)", body))
             Definition(self, name, kind, body.count("\n") + 2, rust=re.findall(r"[\w:]+", types))
         for name, rest in re.findall(r"^(?:pub(?:\(crate\))? )?(?:extern \"C\" )?fn (\w+)(\(.*?)\n\{", text, re.M | re.S):
