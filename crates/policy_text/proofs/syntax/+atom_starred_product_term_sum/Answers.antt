@@ -13,7 +13,8 @@ use Rattle.policy_text.specs.declared.Rank.{Rank}
 use Rattle.policy_text.proofs.Moves.{atom_end, atom_go, atom_leaf, atom_none, atom_bang, atom_over, paren_refused, paren_closed, paren_ends, paren_stops}
 use Rattle.policy_text.proofs.Moves.{join_stars, join_atom_refused, join_refused, join_from, join_in, atom_in, rank_ends, rank_more}
 use Rattle.policy_text.proofs.syntax.+atom_starred_product_term_sum.Goals.{atom-in-84-1, atom-in_default+else-this-lt48+then-this-lt50}
-use Rattle.policy_text.proofs.syntax.+atom_starred_product_term_sum.Goals.{atom-in_default-via-then-this-lt48, atom-in_default-via-else-this-lt48+else-this-lt50}
+use Rattle.policy_text.proofs.syntax.+atom_starred_product_term_sum.Goals.{atom-in_default-via-then-this-lt48}
+use Rattle.policy_text.proofs.syntax.+atom_starred_product_term_sum.Goals.{atom-in_default-via-else-this-lt48+else-this-lt50}
 use Rattle.policy_text.proofs.syntax.+atom_starred_product_term_sum.Goals as goal
 
 pub atom-returns-in_err-byte : goal.atom-returns-in_err-byte
